@@ -1,0 +1,2 @@
+//! The definitions that the contracts of the broker cite.
+#![tactic(auto)]
