@@ -52,7 +52,7 @@ after w [] = w
 after w (s ∷ steps) = after (next w s) steps
 
 -- the first state
-abbrev pub first_world : List Entry → ℕ → List Entry → ℕ → World
+abbrev pub first_world : List Entry → Option ℕ → List Entry → Option ℕ → World
 first_world log_a end_a log_b end_b = record { a = opened A log_a end_a; b = opened B log_b end_b; wire = []; moment = 0 }
 
 -- the log that is certain, and the same followed by the doubt

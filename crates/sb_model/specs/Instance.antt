@@ -1,5 +1,5 @@
 -- The state of one instance, its opening, and what writing entries makes of it.
-use Rattle.std.specs.Prelude.{ℕ, Bool, true, false, not, ◌==◌, ◌+◌, ◌^◌, ◌%◌, nat_lt, if◌then◌else◌, List, [], ◌∷◌, ◌++◌, Option, Some, None, max, map, filter, flat_map, length, sum_by, fold}
+use Rattle.std.specs.Prelude.{min, Option, Some, None, option_and_then, option_map, ℕ, Bool, true, false, not, ◌==◌, ◌+◌, ◌^◌, ◌%◌, nat_lt, if◌then◌else◌, List, [], ◌∷◌, ◌++◌, max, map, filter, flat_map, length, sum_by, fold}
 use Rattle.std.specs.Option.{option_map_or}
 use Rattle.std.specs.List.{list_any, list_all}
 use Rattle.sb_log.specs.declared.identifiers.Handle.{Handle}
@@ -35,7 +35,8 @@ pub record Part : Type 0 where
   -- the log that is certain, and the entries of a step whose write failed
   pub log : List Entry
   pub doubt : List Entry
-  pub end : ℕ
+  -- where its journal ends; the first form of an instance has no journal
+  pub end : Option ℕ
   pub open_txns : List OpenTransaction
   pub next_handle : ℕ
   pub next_tx : ℕ
@@ -76,7 +77,7 @@ next_tx_of log = after_last (fold max 0 (flat_map tx_of log))
 abbrev pub end_of : List Entry → ℕ
 end_of log = 16 + sum_by record_size log
 
-abbrev pub opened : Who → List Entry → ℕ → Part
+abbrev pub opened : Who → List Entry → Option ℕ → Part
 opened who log end = record {
   who = who;
   up = true;
@@ -103,19 +104,32 @@ turns_off _ = false
 abbrev pub limit_for : List Entry → ℕ
 limit_for entries = if list_all turns_off entries then 67108864 else 62914560
 
+-- a number that is shown stands still at 2^64 - 1
+abbrev pub shown : ℕ → ℕ
+shown n = min n 0xffffffffffffffff
+
 abbrev pub too_big : Entry → Option Refusal
-too_big e = if nat_lt 4194304 (length (entry_bytes e)) then Some (refusal.TooBig (length (entry_bytes e))) else None
+too_big e = if nat_lt 4194304 (length (entry_bytes e)) then Some (refusal.TooBig (shown (length (entry_bytes e)))) else None
+
+abbrev pub too_full : List Entry → ℕ → Option Refusal
+too_full entries end = if nat_lt (limit_for entries) end then Some (refusal.Full (shown end)) else None
 
 abbrev pub first_some : {A : Type 0} → List (Option A) → Option A
 first_some [] = None
 first_some (None ∷ os) = first_some os
 first_some (Some x ∷ os) = Some x
 
--- 29 and 30
+-- an entry is longer than its limit, else the journal's end would pass its limit
+abbrev pub no_room_behind : List Entry → ℕ → Option Refusal
+no_room_behind entries end = first_some (map too_big entries ++ too_full entries (end + sum_by record_size entries) ∷ [])
+
 abbrev pub no_room : Part → List Entry → Option Refusal
-no_room p entries =
-    first_some (map too_big entries
-    ++ (if nat_lt (limit_for entries) (p.end + sum_by record_size entries) then Some (refusal.Full (p.end + sum_by record_size entries)) else None) ∷ [])
+no_room p entries = option_and_then (no_room_behind entries) p.end
+
+-- without a journal no write can fail
+abbrev pub luck_at : Option ℕ → Luck → Luck
+luck_at None luck = Works
+luck_at (Some end) luck = luck
 
 abbrev pub has_name : List Bytes → Bytes → Bool
 has_name names name = list_any (same_name name) names
@@ -151,7 +165,7 @@ without_counts counts names = filter (λ c. not (has_name names c.queue)) counts
 abbrev pub grown : Part → List Entry → Part
 grown p entries = record p {
   log = p.log ++ entries;
-  end = p.end + sum_by record_size entries;
+  end = option_map (λ end. end + sum_by record_size entries) p.end;
   held = filter (λ q. not (has_name (flat_map (freed_by (p.log ++ entries)) entries) q)) p.held;
   counts = without_counts p.counts (flat_map turned_on_by entries ++ flat_map queue_taken (flat_map ops_in entries));
 }
@@ -171,7 +185,7 @@ written Works before entries told after = record { answer = told; added = entrie
 written Fails before entries told after = record { answer = answer.Refused (refusal.DiskFailed before.who) None; added = []; part = down_with before entries }
 
 abbrev pub append_to : Luck → Part → List Entry → Answer → Part → Option Refusal → Done
-append_to luck before entries told after None = written luck before entries told after
+append_to luck before entries told after None = written (luck_at before.end luck) before entries told after
 append_to luck before entries told after (Some r) = refused before r
 
 -- where there are none, nothing can fail

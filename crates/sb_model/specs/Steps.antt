@@ -172,7 +172,7 @@ open_with w x n =
       answer = answer.Entries n;
       on = x;
       added = drop (length (part w x).log) (take n ((part w x).log ++ (part w x).doubt));
-      world = with_part w x (opened x (take n ((part w x).log ++ (part w x).doubt)) (end_of (take n ((part w x).log ++ (part w x).doubt))));
+      world = with_part w x (opened x (take n ((part w x).log ++ (part w x).doubt)) (Some (end_of (take n ((part w x).log ++ (part w x).doubt)))));
     })
     else None
 
