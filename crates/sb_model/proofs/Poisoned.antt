@@ -1,5 +1,6 @@
 -- The fifth rolled-back receive in a row turns the queue off.
-use Rattle.std.specs.Prelude.{refl, pos, true, ℕ, zero, suc, ◌+◌, List, [], ◌∷◌, ◌++◌, Some}
+use Rattle.std.specs.Prelude.{◌≡◌, map, take, refl, pos, true, ℕ, zero, suc, ◌+◌, List, [], ◌∷◌, ◌++◌, Some}
+use Rattle.sb_model.specs.Poison.{rollbacks_in_a_row}
 use Rattle.sb_log.specs.declared.identifiers.Who.TheVariants.{A, B}
 use Rattle.sb_log.specs.declared.requests.Request.TheVariants as request
 use Rattle.sb_log.specs.declared.requests.Reply.TheVariants as reply
@@ -42,3 +43,14 @@ five =
 five_go : Plays (after opened_shops four_and_a_commit) five
 unfolding waits_at
 five_go = refl
+
+-- the count over the history is that of the rows: none after the commit, five after the fifth rollback, one after the turning on
+abbrev rows : List Step
+rows = four_and_a_commit ++ five
+
+abbrev count_after : ℕ → ℕ
+count_after n = rollbacks_in_a_row seller_queue B opened_shops (take n rows)
+
+counts : map count_after (12 ∷ 18 ∷ 21 ∷ 33 ∷ 36 ∷ 37 ∷ 38 ∷ 41 ∷ []) ≡ 2 ∷ 4 ∷ 0 ∷ 4 ∷ 5 ∷ 5 ∷ 0 ∷ 1 ∷ []
+unfolding waits_at
+counts = refl

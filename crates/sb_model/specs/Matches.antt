@@ -1,5 +1,5 @@
 -- The best match of a name against definitions that may leave it open.
-use Rattle.std.specs.Prelude.{ℕ, Bool, true, ◌==◌, if◌then◌else◌, List, Option, Some, None, fold, max}
+use Rattle.std.specs.Prelude.{nat_lt, if◌then◌else◌, ℕ, Bool, true, List, Option, Some, None, fold}
 use Rattle.sb_model.specs.Sides.{Bytes, same_name}
 
 -- a priority's part admits a name: it names none, or this one
@@ -14,7 +14,7 @@ points (Some x) n = n
 -- the first of the best
 abbrev pub better : {A : Type 0} → (A → ℕ) → Option A → A → Option A
 better score None x = Some x
-better score (Some best) x = if score x == score best then Some best else (if max (score x) (score best) == score x then Some x else Some best)
+better score (Some best) x = if nat_lt (score best) (score x) then Some x else Some best
 
 abbrev pub best_by : {A : Type 0} → (A → ℕ) → List A → Option A
 best_by score xs = fold (better score) None xs

@@ -1,4 +1,5 @@
 -- Both instances, the wire, and one step of the world.
+use Rattle.sb_model.specs.Sorting.{in_order}
 use Rattle.std.specs.Prelude.{IsTrue, ℕ, zero, suc, Bool, true, false, not, ◌&&◌, ◌+◌, ◌^◌, ◌%◌, nat_le, nat_lt, if◌then◌else◌, List, [], ◌∷◌, ◌++◌, Option, Some, None, Result, Ok, Err, map, filter, filter_map, length, take, drop, option_map, option_and_then, slice_get}
 use Rattle.sb_log.specs.declared.messages.Content.{Content}
 use Rattle.sb_model.specs.Sides.{Making, Bytes, same_side, same_who, id, made, side_of}
@@ -176,9 +177,11 @@ open_with w x n =
     })
     else None
 
+-- where the disk failed, or the journal was refused, the instance stays down
 abbrev pub open_step : World → Who → Answer → Option Stepped
 open_step w x (answer.Entries n) = if (part w x).up then None else open_with w x n
 open_step w x answer.OpenFailed = if (part w x).up then None else Some (told w answer.OpenFailed)
+open_step w x (answer.OpenRefused at) = if (part w x).up then None else Some (told w (answer.OpenRefused at))
 open_step w x given = if (part w x).up then Some (told w (answer.Barred (barred.Up x))) else None
 
 -- a step whose write failed says so
@@ -197,8 +200,9 @@ owner_session (open_as.Reader n q) = None
 abbrev pub session : Who → ℕ → Session
 session x n = record { instance = x; number = n }
 
+-- the sessions with an open transaction, by number
 abbrev pub sessions_open : Who → Part → List Session
-sessions_open x p = filter_map (λ o. option_map (λ n. session x n) (owner_session o.owner)) p.open_txns
+sessions_open x p = map (session x) (in_order nat_lt (filter_map (λ o. owner_session o.owner) p.open_txns))
 
 -- no reader is open and none has work
 abbrev pub is_settled : World → Bool
