@@ -1,0 +1,58 @@
+//! Laws of the definitions of the broker, each the contract of a function that does nothing.
+//!
+//! They speak of `step` and of legal histories, not of the program. A history may start from any two
+//! logs that are linked, and its logs have to stay fresh. A rolled-back transaction leaves no trace of
+//! its handles in a log, so the number of steps is bounded too.
+#![tactic(auto)]
+
+ghost use Rattle.std.specs.Prelude.{◌≡◌, ℕ, ◌≤◌, ◌^◌, length, List, [], ◌∷◌, ◌++◌, Option};
+ghost use Rattle.sb_log.specs.declared.identifiers.Who.TheVariants.{A, B};
+ghost use Rattle.sb_log.specs.declared.entries.Entry.{Entry};
+ghost use Rattle.sb_log.specs.declared.steps.Step.{Step};
+ghost use Rattle.sb_model.specs.Steps.{World};
+ghost use Rattle.sb_model.specs.Histories.{Legal, Gives, outcome, after, first_world, at_most, kept};
+ghost use Rattle.sb_model.specs.Survival.{Survives};
+ghost use Rattle.sb_model.specs.Links.{DeliversInOrder, StaysLinked, both};
+ghost use Rattle.sb_laws.specs.Worlds.{StaysFresh};
+ghost use Rattle.sb_laws.specs.Starts.{StartsLinked, IsReady};
+ghost use Rattle.sb_laws.specs.Ready.{ready_log};
+
+/// A legal history goes on with each step whose answer is that of `step`.
+pub fn legal_history_grows()
+    ensures { (w : World) (steps : List Step) (s : Step) → Legal w steps → Gives (outcome (after w steps) s) s → Legal w (steps ++ s ∷ []) }
+{}
+
+/// Logs that are made by hand, with nothing said in their dialogs, are linked.
+pub fn ready_logs_start_linked()
+    ensures { (log_a log_b : List Entry) → IsReady A log_a → IsReady B log_b → StartsLinked log_a log_b }
+{}
+
+/// In particular empty logs are.
+pub fn empty_logs_start_linked()
+    ensures { StartsLinked [] [] }
+{}
+
+/// And so is a log with one dialog between two services, beside an empty one.
+pub fn example_starts_linked()
+    ensures { StartsLinked ready_log [] }
+{}
+
+/// After a legal history from linked logs, whatever survives of both logs is linked.
+pub fn stays_linked()
+    ensures { (log_a log_b : List Entry) (end_a end_b : Option ℕ) (steps : List Step)
+        → StartsLinked log_a log_b → length steps ≤ 2 ^ 60
+        → Legal (first_world log_a end_a log_b end_b) steps → StaysFresh (first_world log_a end_a log_b end_b) steps
+        → StaysLinked (after (first_world log_a end_a log_b end_b) steps) }
+{}
+
+/// In whatever survives of both logs after a legal history from linked ones, each side received what its partner sent, in order and each
+/// once. The initiator of a conversation whose target both instances made has no single partner and is left out.
+pub fn delivers_in_order()
+    ensures { (log_a log_b : List Entry) (end_a end_b : Option ℕ) (steps : List Step)
+        → StartsLinked log_a log_b → length steps ≤ 2 ^ 60
+        → Legal (first_world log_a end_a log_b end_b) steps → StaysFresh (first_world log_a end_a log_b end_b) steps
+        → (a b : List Entry)
+        → Survives (at_most (after (first_world log_a end_a log_b end_b) steps) A) (kept (after (first_world log_a end_a log_b end_b) steps) A) a
+        → Survives (at_most (after (first_world log_a end_a log_b end_b) steps) B) (kept (after (first_world log_a end_a log_b end_b) steps) B) b
+        → DeliversInOrder (both a b) }
+{}
