@@ -1,0 +1,4 @@
+pub mod Lex
+pub mod Pieces
+pub mod Cuts
+pub mod Answer
