@@ -150,6 +150,11 @@ opening_world w x answer.OpenFailed r h roomy e = by_up (part w x).up e
     by_up : (c : Bool) → cond c None (Some (told w answer.OpenFailed)) ≡ Some r → Keeps w r.world
     by_up true f = none_is r f
     by_up false f = some_is (told w answer.OpenFailed) r f (keeps_same w h)
+opening_world w x (answer.OpenRefused at) r h roomy e = by_up (part w x).up e
+  where
+    by_up : (c : Bool) → cond c None (Some (told w (answer.OpenRefused at))) ≡ Some r → Keeps w r.world
+    by_up true f = none_is r f
+    by_up false f = some_is (told w (answer.OpenRefused at)) r f (keeps_same w h)
 opening_world w x given r h roomy e = up_world w x given r h e
 
 -- each step keeps the invariant
