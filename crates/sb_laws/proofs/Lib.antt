@@ -18,4 +18,9 @@ pub mod Deliveries
 pub mod Worlds
 pub mod Delivery
 pub mod Starts
+pub mod Low
+pub mod PlanForms
+pub mod LowPlans
+pub mod LowSteps
+pub mod LowWorlds
 pub mod Alone

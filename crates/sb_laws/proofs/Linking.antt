@@ -156,11 +156,11 @@ all_put_in P before x (y ∷ ys) p h = by_test (before x y) (all_put_in P before
     by_test true rest = (p, h)
     by_test false rest = (h.0, rest)
 
-all_stable : {X : Type 0} (P : X → Type 0) (before : X → X → Bool) (xs : List X) → AllByRecursion P xs → AllByRecursion P (stable before xs)
+pub all_stable : {X : Type 0} (P : X → Type 0) (before : X → X → Bool) (xs : List X) → AllByRecursion P xs → AllByRecursion P (stable before xs)
 all_stable P before [] h = tt
 all_stable P before (x ∷ xs) h = all_put_in P before x (stable before xs) h.0 (all_stable P before xs h.1)
 
-all_flat_map : {X Y : Type 0} (P : X → Type 0) (Q : Y → Type 0) (f : X → List Y) → ((x : X) → P x → AllByRecursion Q (f x)) → (xs : List X) → AllByRecursion P xs → AllByRecursion Q (flat_map f xs)
+pub all_flat_map : {X Y : Type 0} (P : X → Type 0) (Q : Y → Type 0) (f : X → List Y) → ((x : X) → P x → AllByRecursion Q (f x)) → (xs : List X) → AllByRecursion P xs → AllByRecursion Q (flat_map f xs)
 all_flat_map P Q f g [] h = tt
 all_flat_map P Q f g (x ∷ xs) h = all_append Q (f x) (flat_map f xs) (g x h.0) (all_flat_map P Q f g xs h.1)
 

@@ -224,7 +224,7 @@ few_same d n m top a b c = (omega (arith, b), omega (arith, c))
 pub few_wider : (n m k l : ℕ) → Few 2 n m k l → Few 4 n m k l
 few_wider n m k l f top a b c = let r = f top a b c in (omega (arith, r.0), omega (arith, r.1))
 
-mod_least : (k : ℕ) → k % 2 ^ 64 ≤ k
+pub mod_least : (k : ℕ) → k % 2 ^ 64 ≤ k
 mod_least k = omega (arith, div-add-mod' k (2 ^ 64))
 
 pub few_tx : (n m : ℕ) → Few 2 n m n ((m + 1) % 2 ^ 64)

@@ -320,7 +320,7 @@ fold_above : (a : ℕ) (ns : List ℕ) → a ≤ fold max a ns
 fold_above a [] = omega arith
 fold_above a (n ∷ ns) = let r : max a n ≤ fold max (max a n) ns = fold_above (max a n) ns in omega (arith, r)
 
-fold_below : (top a : ℕ) (ns : List ℕ) → a < top → AllByRecursion (λ n. n < top) ns → fold max a ns < top
+pub fold_below : (top a : ℕ) (ns : List ℕ) → a < top → AllByRecursion (λ n. n < top) ns → fold max a ns < top
 fold_below top a [] lt h = lt
 fold_below top a (n ∷ ns) lt h = fold_below top (max a n) ns (let q = h.0 in omega (arith, lt, q)) h.1
 

@@ -1,3 +1,4 @@
 pub mod Worlds
 pub mod Starts
 pub mod Ready
+pub mod Fresh

@@ -5,7 +5,7 @@
 //! its handles in a log, so the number of steps is bounded too.
 #![tactic(auto)]
 
-ghost use Rattle.std.specs.Prelude.{◌≡◌, ℕ, ◌≤◌, ◌^◌, length, List, [], ◌∷◌, ◌++◌, Option};
+ghost use Rattle.std.specs.Prelude.{◌≡◌, ℕ, ◌≤◌, ◌^◌, length, List, [], ◌∷◌, ◌++◌, Option, IsTrue};
 ghost use Rattle.sb_log.specs.declared.identifiers.Who.TheVariants.{A, B};
 ghost use Rattle.sb_log.specs.declared.entries.Entry.{Entry};
 ghost use Rattle.sb_log.specs.declared.steps.Step.{Step};
@@ -16,6 +16,7 @@ ghost use Rattle.sb_model.specs.Links.{DeliversInOrder, StaysLinked, both};
 ghost use Rattle.sb_laws.specs.Worlds.{StaysFresh};
 ghost use Rattle.sb_laws.specs.Starts.{StartsLinked, IsReady};
 ghost use Rattle.sb_laws.specs.Ready.{ready_log};
+ghost use Rattle.sb_laws.specs.Fresh.{is_under, SpellsLow};
 
 /// A legal history goes on with each step whose answer is that of `step`.
 pub fn legal_history_grows()
@@ -35,6 +36,13 @@ pub fn empty_logs_start_linked()
 /// And so is a log with one dialog between two services, beside an empty one.
 pub fn example_starts_linked()
     ensures { StartsLinked ready_log [] }
+{}
+
+/// Where no related group is spelled with a great low half, the number of steps alone keeps the logs fresh.
+pub fn drawn_handles_stay_fresh()
+    ensures { (log_a log_b : List Entry) (end_a end_b : Option ℕ) (steps : List Step)
+        → IsTrue (is_under (2 ^ 61) log_a) → IsTrue (is_under (2 ^ 61) log_b) → length steps ≤ 2 ^ 58 → SpellsLow (2 ^ 61) steps
+        → StaysFresh (first_world log_a end_a log_b end_b) steps }
 {}
 
 /// After a legal history from linked logs, whatever survives of both logs is linked.
