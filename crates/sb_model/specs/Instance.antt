@@ -14,7 +14,7 @@ use Rattle.sb_log.specs.declared.entries.Op.TheVariants.{Took, Move}
 use Rattle.sb_model.specs.Items.{queue_of}
 use Rattle.sb_model.specs.Transactions.{OpenTransaction}
 use Rattle.sb_model.specs.Frames.{Owed}
-use Rattle.sb_model.specs.Spelling.{entry_bytes, record_size}
+use Rattle.sb_model.specs.Sizes.{entry_size, record_size}
 use Rattle.sb_log.specs.declared.refusals.Refusal.TheVariants as refusal
 use Rattle.sb_log.specs.declared.steps.Answer.TheVariants as answer
 
@@ -109,7 +109,7 @@ abbrev pub shown : ℕ → ℕ
 shown n = min n 0xffffffffffffffff
 
 abbrev pub too_big : Entry → Option Refusal
-too_big e = if nat_lt 4194304 (length (entry_bytes e)) then Some (refusal.TooBig (shown (length (entry_bytes e)))) else None
+too_big e = if nat_lt 4194304 (entry_size e) then Some (refusal.TooBig (shown (entry_size e))) else None
 
 abbrev pub too_full : List Entry → ℕ → Option Refusal
 too_full entries end = if nat_lt (limit_for entries) end then Some (refusal.Full (shown end)) else None

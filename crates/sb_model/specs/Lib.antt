@@ -15,8 +15,10 @@ pub mod Pick
 pub mod Refusals
 pub mod Acceptance
 pub mod Frames
+pub mod Sizes
 pub mod Spelling
 pub mod Reading
+pub mod FrameReading
 pub mod Replies
 pub mod Definitions
 pub mod Instance

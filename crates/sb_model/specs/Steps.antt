@@ -28,7 +28,7 @@ use Rattle.sb_log.specs.declared.steps.DueKind.{DueKind}
 use Rattle.sb_model.specs.Deadlines.{Due, due}
 use Rattle.sb_model.specs.Transactions.{Owner}
 use Rattle.sb_model.specs.Acceptance.{instance_id, verdict, ack_verdict, accepted_entry, receiver}
-use Rattle.sb_model.specs.Reading.{decode_frame}
+use Rattle.sb_model.specs.FrameReading.{decode_frame}
 use Rattle.sb_model.specs.Instance.{Luck, Works, Fails, Part, Done, append, opened, end_of, down_with, refused}
 use Rattle.sb_model.specs.Dump.{dump}
 use Rattle.sb_model.specs.Settled.{is_part_settled}

@@ -5,6 +5,7 @@ use Rattle.sb_model.specs.Sides.{Bytes, same_name}
 use Rattle.sb_log.specs.declared.messages.Frame.{Frame}
 use Rattle.sb_log.specs.declared.steps.FrameLine.{FrameLine}
 use Rattle.sb_model.specs.Frames.{Sent}
+use Rattle.sb_model.specs.Sizes.{frame_size}
 use Rattle.sb_model.specs.Spelling.{frame_bytes}
 
 -- a frame that was put, and whether it waits
@@ -30,10 +31,10 @@ abbrev pub spelled_on : List Wired → Bytes → Option Wired
 spelled_on wire bytes = find (λ g. same_name (frame_bytes g.frame) bytes) wire
 
 abbrev pub wire_size : List Wired → ℕ
-wire_size wire = sum_by (λ f. length (frame_bytes f.frame)) wire
+wire_size wire = sum_by (λ f. frame_size f.frame) wire
 
 abbrev pub sent_size : List Sent → ℕ
-sent_size sent = sum_by (λ f. length (frame_bytes f.frame)) sent
+sent_size sent = sum_by (λ f. frame_size f.frame) sent
 
 abbrev pub put : Who → Sent → Wired
 put x s = record { from = x; to = s.to; frame = s.frame; waits = true }
