@@ -1,6 +1,6 @@
 -- An accepted frame and an acknowledgement keep the logs linked.
 use Rattle.std.proofs.Common.{◌≡◌, ℕ, zero, suc, Bool, true, false, List, [], ◌∷◌, ◌++◌, ◌+◌, ◌-◌, Option, Some, None, refl, sym, ◌∙◌, ap, subst, length, arith, cond, inl, inr, append-nil}
-use Rattle.std.specs.Prelude.{slice_get, ◌⊎◌, not, IsTrue, MatchBool, ◌&&◌, nat_le, nat_lt, is_none}
+use Rattle.std.specs.Prelude.{◌||◌, slice_get, ◌⊎◌, not, IsTrue, MatchBool, ◌&&◌, nat_le, nat_lt, is_none}
 use Rattle.std.specs.Option.{option_map_or}
 use Rattle.std.specs.List.{AllByRecursion}
 use Rattle.std.proofs.lemmas.Bool.Decides.{nat_tests}
@@ -15,13 +15,13 @@ use Rattle.sb_log.specs.declared.messages.Content.{Content}
 use Rattle.sb_log.specs.declared.messages.Data.{Data}
 use Rattle.sb_log.specs.declared.messages.Ack.{Ack}
 use Rattle.sb_log.specs.declared.steps.Verdict.{Verdict}
-use Rattle.sb_log.specs.declared.steps.Verdict.TheVariants.{New, Next, Repeat, Early, Gone, NotHere}
-use Rattle.sb_model.specs.Sides.{same_side, same_id, partner, is_home}
+use Rattle.sb_log.specs.declared.steps.Verdict.TheVariants.{New, Next, Repeat, Early, Gone, NotHere, AckNew, AckOld}
+use Rattle.sb_model.specs.Sides.{has_side, same_side, same_id, partner, is_home}
 use Rattle.sb_model.specs.Sides.{Making, making, makings, made, ops_of}
-use Rattle.sb_model.specs.Messages.{accepted, contents_accepted, is_closed, acks}
-use Rattle.sb_model.specs.Catalog.{find_service}
+use Rattle.sb_model.specs.Messages.{accepted, contents_accepted, is_closed, acks, acked, is_closed_by_ack}
+use Rattle.sb_model.specs.Catalog.{queue_is_on, find_contract, find_service}
 use Rattle.sb_model.specs.Messages.{numbered}
-use Rattle.sb_model.specs.Acceptance.{verdict, is_for_other, makes_side, receiver, accepted_entry, instance_id}
+use Rattle.sb_model.specs.Acceptance.{ack_verdict, never_sent, receiving_queue, offers, is_type_refused, verdict, is_for_other, makes_side, receiver, accepted_entry, instance_id}
 use Rattle.sb_model.specs.Frames.{sent_header}
 use Rattle.sb_model.specs.Wire.{Wired}
 use Rattle.sb_model.specs.Links.{Logs, Linked, IsSound, HasSide, CameFrom, TargetIsBegun, AckIsFrom, IsSent, IsAcked, TakenInOrder, BeginsHere, MakesTarget, EndsForGood}
@@ -69,6 +69,61 @@ is_accepting y log d h =
       number = next_number d.number (accepted log (receiver d)) p4.0 p5.0;
       service = p6.0;
     }
+
+past_row : (b : Bool) (v w : Verdict) → (v ≡ Next → ⊥) → cond b v w ≡ Next → w ≡ Next
+past_row true v w f e = absurd (f e)
+past_row false v w f e = e
+
+-- where the side is made the answer is New
+pub next_makes_none : (y : Who) (log : List Entry) (d : Data) → verdict y log d ≡ Next → makes_side log d ≡ false
+next_makes_none y log d e =
+    let p1 = past_row (is_for_other y d) (NotHere 1) _ (λ f. not_next (NotHere 1) refl f) e in
+    let p2 = past_row (makes_side log d && (receiver d).initiator) (NotHere 2) _ (λ f. not_next (NotHere 2) refl f) p1 in
+    let p3 = past_row (is_closed log (receiver d)) Gone _ (λ f. not_next Gone refl f) p2 in
+    let p4 = past_row (nat_le d.number (accepted log (receiver d))) Repeat _ (λ f. not_next Repeat refl f) p3 in
+    let p5 = past_row (nat_lt (accepted log (receiver d) + 1) d.number) Early _ (λ f. not_next Early refl f) p4 in
+    let p6 = past_row (makes_side log d && is_none (find_service log d.header.to_service)) (NotHere 3) _ (λ f. not_next (NotHere 3) refl f) p5 in
+    let p7 = past_row (not (option_map_or (queue_is_on log) (receiving_queue log d) false)) (NotHere 4) _ (λ f. not_next (NotHere 4) refl f) p6 in
+    let p8 = past_row (is_none (find_contract log d.header.contract) || (makes_side log d && not (offers log d))) (NotHere 5) _ (λ f. not_next (NotHere 5) refl f) p7 in
+    let p9 = past_row (is_type_refused log d.side d.header.contract d.content) (NotHere 6) _ (λ f. not_next (NotHere 6) refl f) p8 in
+    last (makes_side log d) p9
+  where
+    is_next : Verdict → Bool
+    is_next Next = true
+    is_next _ = false
+
+    not_next : (v : Verdict) → is_next v ≡ false → v ≡ Next → ⊥
+    not_next v f g = absurd (clash (sym (ap is_next g) ∙ f))
+      where
+        clash : true ≡ false → ⊥
+        clash h = cc
+
+    last : (b : Bool) → cond b New Next ≡ Next → b ≡ false
+    last true f = absurd (not_next New refl f)
+    last false f = refl
+
+-- an acknowledgement that counts is of a side that is there
+pub ack_there : (y : Who) (log : List Entry) (k : Ack) → ack_verdict y log k ≡ AckNew → has_side log k.side ≡ true
+ack_there y log k e = by_id (same_id k.to (instance_id y)) e
+  where
+    counts : Verdict → Bool
+    counts AckNew = true
+    counts _ = false
+
+    not_new : {P : Type 0} (v : Verdict) → counts v ≡ false → v ≡ AckNew → P
+    not_new v f g = absurd (clash (sym (ap counts g) ∙ f))
+      where
+        clash : true ≡ false → ⊥
+        clash h = cc
+
+    by_side : (b : Bool) → cond (not b) (NotHere 2) (cond (never_sent log k) (NotHere 7) (cond (nat_lt (acked log k.side) k.upto || (k.closed && not (is_closed_by_ack log k.side))) AckNew AckOld)) ≡ AckNew → b ≡ true
+    by_side true f = refl
+    by_side false f = not_new (NotHere 2) refl f
+
+    by_id : (b : Bool) → cond (not b) (NotHere 1) (cond (not (has_side log k.side)) (NotHere 2)
+        (cond (never_sent log k) (NotHere 7) (cond (nat_lt (acked log k.side) k.upto || (k.closed && not (is_closed_by_ack log k.side))) AckNew AckOld))) ≡ AckNew → has_side log k.side ≡ true
+    by_id true f = by_side (has_side log k.side) f
+    by_id false f = not_new (NotHere 1) refl f
 
 matched_by : (b : Bool) (P Q : Type 0) → (b ≡ true → P) → (b ≡ false → Q) → MatchBool b P Q
 matched_by true P Q f g = f refl

@@ -1,6 +1,6 @@
 -- What deliveries and timers make of an instance, and what each adds to linked logs.
-use Rattle.std.proofs.Common.{◌≡◌, ℕ, zero, suc, Bool, true, false, List, [], ◌∷◌, ◌++◌, ◌+◌, ◌^◌, ◌%◌, Option, Some, None, refl, sym, ap, subst, arith, cond, append-nil, take}
-use Rattle.std.specs.Prelude.{flat_map, ◌&&◌, option_and_then}
+use Rattle.std.proofs.Common.{◌≡◌, ℕ, zero, suc, Bool, true, false, List, [], ◌∷◌, ◌++◌, ◌+◌, ◌^◌, ◌%◌, Option, Some, None, refl, sym, ◌∙◌, ◌<◌, ap, subst, arith, cond, append-nil, take}
+use Rattle.std.specs.Prelude.{flat_map, not, ◌==◌, ◌&&◌, nat_le, is_some, is_none, option_and_then}
 use Rattle.std.specs.Option.{option_eq}
 use Rattle.std.specs.List.{AllByRecursion}
 use Rattle.std.proofs.lemmas.Option.{same_Some}
@@ -37,7 +37,27 @@ use Rattle.sb_laws.proofs.Grow.{Grown, all_append}
 use Rattle.sb_laws.proofs.Linking.{Adds, adds_nothing, adds_own, linked_more}
 use Rattle.sb_laws.proofs.Accepting.{IsAccepting, is_accepting, accepts, makes_target, adds_accepted, adds_acked}
 use Rattle.sb_laws.proofs.Plans.{low_is}
-use Rattle.sb_laws.proofs.Opens.{LogOk, LiveOk}
+use Rattle.std.specs.Bool.{beq}
+use Rattle.std.specs.List.{list_any}
+use Rattle.std.proofs.lemmas.Bool.{eq-eqb}
+use Rattle.sb_log.specs.declared.entries.NewSide.{NewSide}
+use Rattle.sb_model.specs.Sides.{Making, made, has_side, is_of, same_id, sides}
+use Rattle.sb_model.specs.Groups.{own_service}
+use Rattle.sb_model.specs.Catalog.{find_service}
+use Rattle.sb_model.specs.Messages.{accepted}
+use Rattle.sb_model.specs.Deadlines.{due_by, due_of, due_before, may_be_due, timer_of, expiry}
+use Rattle.sb_model.specs.Instance.{low_half}
+use Rattle.sb_model.specs.Logs.{is_allowed, is_made_allowed, are_allowed_after}
+use Rattle.sb_laws.proofs.Sides.{ids_same}
+use Rattle.sb_laws.proofs.Taking.{all_in_order}
+use Rattle.sb_laws.proofs.Delivered.{made_has_side}
+use Rattle.sb_laws.proofs.Linking.{all_flat_map, sides_made}
+use Rattle.sb_laws.proofs.Grow.{all_weaker, or_false}
+use Rattle.sb_laws.proofs.Allowed.{NewIn, initiator_of, has_handle, new_in_none, both_true}
+use Rattle.sb_laws.proofs.Plans.{drawn_new, drawn_low}
+use Rattle.sb_laws.proofs.Accepting.{next_makes_none, ack_there}
+use Rattle.sb_laws.proofs.Parts.{Brings, brings_none}
+use Rattle.sb_laws.proofs.Opens.{LogOk, LiveOk, IsOpenOk, IsCounted, BeginsBelow}
 use Rattle.sb_laws.specs.Worlds.{HasRoom}
 use Rattle.sb_laws.proofs.Parts.{Few, few_same, few_drawn, PartOk, Moved, SameLog, IsQuiet, moved_live, moved_quiet}
 use Rattle.sb_laws.proofs.Steps.{Steps, IsOwn, stays, quiet_moved, live_later}
@@ -197,6 +217,96 @@ one_fits x wire log e f (suc j) = subst (λ l. Fits x wire log (e ∷ l)) (sym (
     nothing zero = refl
     nothing (suc k) = refl
 
+-- ---- an accepted frame is allowed, and what it makes is new
+
+not_is : (b : Bool) → not b ≡ true → b ≡ false
+not_is true e = cc
+not_is false e = refl
+
+not_not : (b : Bool) → not b ≡ false → b ≡ true
+not_not true e = refl
+not_not false e = cc
+
+module _ (p : Part) (d : Data) (acc : IsAccepting p.who p.log d) (room : p.next_handle + 2 < 2 ^ 64) (live : LiveOk p.who p.log p.next_handle p.next_tx p.open_txns) where
+  made_side : NewSide
+  made_side = record { handle = new_handle p 0; group = new_handle p 1; header = d.header }
+
+  is_target : makes_side p.log d ≡ true → (receiver d).initiator ≡ false
+  is_target e = both_not (makes_side p.log d) (receiver d).initiator acc.not_initiator e
+    where
+      both_not : (a b : Bool) → (a && b) ≡ false → a ≡ true → b ≡ false
+      both_not true b f g = f
+      both_not false b f g = cc
+
+  allowed_made : (b : Bool) → makes_side p.log d ≡ b → is_made_allowed p.log (receiver d) (cond b (Some (record { handle = new_handle p 0; group = new_handle p 1; header = d.header })) None) ≡ true
+  allowed_made false e = not_not (has_side p.log (receiver d)) e
+  allowed_made true e =
+      both_true (not (has_side p.log (receiver d)) && not (list_any (has_handle (new_handle p 0)) (makings p.log))) (is_some (find_service p.log (own_service (receiver d) d.header)))
+      (both_true (not (has_side p.log (receiver d))) (not (list_any (has_handle (new_handle p 0)) (makings p.log))) e (ap not (drawn_new p.who p.next_handle (omega (arith, room)) (makings p.log) live.counted)))
+      (ap (λ b. is_some (find_service p.log (cond b d.header.from_service d.header.to_service))) (is_target e) ∙ there (find_service p.log d.header.to_service) (sym (ap (λ b. b && is_none (find_service p.log d.header.to_service)) e) ∙ acc.service))
+    where
+      there : {X : Type 0} (o : Option X) → is_none o ≡ false → is_some o ≡ true
+      there None f = cc
+      there (Some x) f = refl
+
+  pub data_allowed : are_allowed_after p.log (data_entry p d ∷ []) ≡ true
+  data_allowed = both_true (is_allowed p.log (data_entry p d)) true
+      (both_true (is_made_allowed p.log (receiver d) (cond (makes_side p.log d) (Some (record { handle = new_handle p 0; group = new_handle p 1; header = d.header })) None)) (d.number == accepted p.log (receiver d) + 1)
+      (allowed_made (makes_side p.log d) refl) (eq-eqb d.number (accepted p.log (receiver d) + 1) acc.number)) refl
+
+  abbrev makes : Bool → List Making
+  makes b = makings (Accepted (receiver d) d.number (cond b (Some (record { handle = new_handle p 0; group = new_handle p 1; header = d.header })) None) d.content ∷ [])
+
+  -- no begin of an open transaction has the drawn handle
+  begin_apart : (h : Handle) → low_half h.0 < p.next_handle → same_id (new_handle p 0) h ≡ false
+  begin_apart h lt = by_test (same_id (new_handle p 0) h) refl
+    where
+      not_below : (j k : ℕ) → j ≡ k → j < k → ⊥
+      not_below j k e less = absurd (omega (arith, e, less))
+
+      by_test : (b : Bool) → same_id (new_handle p 0) h ≡ b → same_id (new_handle p 0) h ≡ false
+      by_test false e = e
+      by_test true e = absurd (not_below (low_half (new_handle p 0).0) p.next_handle (drawn_low p.who p.next_handle (omega (arith, room))) (subst (λ z. low_half z.0 < p.next_handle) (sym (ids_same (new_handle p 0) h e)) lt))
+
+  new_by : (b : Bool) → makes_side p.log d ≡ b → (ops : List Op) → AllByRecursion (BeginsBelow p.next_handle) ops → AllByRecursion (NewIn (makes b)) ops
+  new_by false e ops k = new_in_none ops
+  new_by true e [] k = tt
+  new_by true e (Begin h g hd ∷ ops) k = ((target_apart, or_false (same_id (new_handle p 0) h) false (begin_apart h k.0) refl), new_by true e ops k.1)
+    where
+      target_apart : list_any (is_of (initiator_of h)) (makes true) ≡ false
+      target_apart = or_false (same_side (receiver d) (initiator_of h)) false (apart (same_id (receiver d).conversation h) (receiver d).initiator (is_target e)) refl
+        where
+          apart : (a b : Bool) → b ≡ false → (a && beq b true) ≡ false
+          apart true true f = cc
+          apart true false f = refl
+          apart false b f = refl
+  new_by true e (Send a b c ∷ ops) k = (tt, new_by true e ops k.1)
+  new_by true e (Took a b ∷ ops) k = (tt, new_by true e ops k.1)
+  new_by true e (End a b ∷ ops) k = (tt, new_by true e ops k.1)
+  new_by true e (Cleanup a ∷ ops) k = (tt, new_by true e ops k.1)
+  new_by true e (Move a b ∷ ops) k = (tt, new_by true e ops k.1)
+  new_by true e (Timer a b ∷ ops) k = (tt, new_by true e ops k.1)
+  new_by true e (Put a b c w ∷ ops) k = (tt, new_by true e ops k.1)
+  new_by true e (Delete a b ∷ ops) k = (tt, new_by true e ops k.1)
+
+  counted_by : (b : Bool) (top : ℕ) → makes_side p.log d ≡ b → (b ≡ true → p.next_handle < top) → AllByRecursion (IsCounted p.who top) (makes b)
+  counted_by false top e f = tt
+  counted_by true top e f = (
+    ((λ i. absurd (clash (sym i ∙ is_target e))), (λ i. let low : low_half (new_handle p 0).0 ≡ p.next_handle = drawn_low p.who p.next_handle (omega (arith, room)) in let lt : p.next_handle < top = f refl in omega (arith, low, lt))),
+    tt,
+  )
+    where
+      clash : true ≡ false → ⊥
+      clash g = cc
+
+  pub data_brings : (top : ℕ) → (makes_side p.log d ≡ true → p.next_handle < top) → Brings p.who p.log (data_entry p d ∷ []) top p.open_txns
+  data_brings top f = record {
+    quiet = ((refl, makes_target (receiver d) d.number (makes_side p.log d) _ d.content acc.not_initiator), tt);
+    allowed = data_allowed;
+    new = all_weaker (IsOpenOk p.who p.log p.next_handle p.next_tx) (λ o. AllByRecursion (NewIn (makes (makes_side p.log d))) o.ops) (λ o k. new_by (makes_side p.log d) refl o.ops k.begins_below) p.open_txns live.each;
+    counted = counted_by (makes_side p.log d) top refl f;
+  }
+
 module _ (wire : List Wired) (p : Part) (h : PartOk p) (room : HasRoom p) (up : p.up ≡ true) (from : Who) where
   live : LiveOk p.who p.log p.next_handle p.next_tx p.open_txns
   live = h.live up
@@ -231,24 +341,31 @@ module _ (wire : List Wired) (p : Part) (h : PartOk p) (room : HasRoom p) (up : 
           (λ f. subst (λ y. LiveOk y after.log after.next_handle after.next_tx after.open_txns) (sym same.who) (subst (λ l. LiveOk p.who l after.next_handle after.next_tx after.open_txns) (sym same.log) live_after));
     })
 
+    brings_after : (d : Data) → IsAccepting p.who p.log d → (top : ℕ) → (makes_side p.log d ≡ true → p.next_handle < top) → Brings p.who p.log (data_entry p d ∷ []) top after.open_txns
+    brings_after d acc top f = subst (Brings p.who p.log (data_entry p d ∷ []) top) (sym opens) (data_brings p d acc room.handles live top f)
+
+    drawn_above : p.next_handle < (after.next_handle + 2) % 2 ^ 64
+    drawn_above = subst (λ k. p.next_handle < (k + 2) % 2 ^ 64) (sym handles) (let e : (p.next_handle + 2) % 2 ^ 64 ≡ p.next_handle + 2 = low_is (p.next_handle + 2) room.handles in omega (arith, e))
+
     pub accept_moved : (luck : Luck) (d : Data) (v : Verdict) → verdict p.who p.log d ≡ v → ((b : List Entry) → Linked (pairing p.who p.log b) wire → IsFrameOf (pairing p.who p.log b) from (frame.Data d)) →
         Goes wire p (accept_data luck p after d v).part
     accept_moved luck d New e sent =
         let acc : IsAccepting p.who p.log d = is_accepting p.who p.log d (ap accepts e) in
         record {
           entries = data_entry p d ∷ [];
-          moved = moved_quiet luck p (draws after 2) (data_entry p d ∷ []) (verdict_told New) h up drawn_same
-              ((refl, makes_target (receiver d) d.number (makes_side p.log d) _ d.content acc.not_initiator), tt) live_drawn;
+          moved = moved_quiet luck p (draws after 2) (data_entry p d ∷ []) (verdict_told New) h up drawn_same (brings_after d acc ((after.next_handle + 2) % 2 ^ 64) (λ f. drawn_above)) live_drawn;
           fits = one_fits p.who wire p.log (data_entry p d) (accepted_fits p.who from wire p.log d (new_handle p 0) (new_handle p 1) acc sent);
         }
     accept_moved luck d Next e sent =
         let acc : IsAccepting p.who p.log d = is_accepting p.who p.log d (ap accepts e) in
         record {
           entries = data_entry p d ∷ [];
-          moved = moved_quiet luck p after (data_entry p d ∷ []) (verdict_told Next) h up same
-              ((refl, makes_target (receiver d) d.number (makes_side p.log d) _ d.content acc.not_initiator), tt) live_after;
+          moved = moved_quiet luck p after (data_entry p d ∷ []) (verdict_told Next) h up same (brings_after d acc after.next_handle (λ f. absurd (clash (sym f ∙ next_makes_none p.who p.log d e)))) live_after;
           fits = one_fits p.who wire p.log (data_entry p d) (accepted_fits p.who from wire p.log d (new_handle p 0) (new_handle p 1) acc sent);
         }
+      where
+        clash : true ≡ false → ⊥
+        clash g = cc
     accept_moved luck d Repeat e sent = stays_after
     accept_moved luck d Gone e sent = stays_after
     accept_moved luck d Early e sent = stays_after
@@ -270,23 +387,24 @@ module _ (wire : List Wired) (p : Part) (h : PartOk p) (room : HasRoom p) (up : 
       Goes wire p (accept_data luck p p d (verdict p.who p.log d)).part
   handed_moved luck d sent = accept_moved p refl (record { who = refl; up = refl; log = refl; doubt = refl; few = few_same 2 p.next_handle p.next_tx }) refl refl luck d (verdict p.who p.log d) refl sent
 
-  ack_moved : (luck : Luck) (k : Ack) (v : Verdict) → ((b : List Entry) → Linked (pairing p.who p.log b) wire → IsFrameOf (pairing p.who p.log b) from (frame.Ack k)) → Goes wire p (deliver_ack luck p k v).part
-  ack_moved luck k AckNew acked = record {
+  ack_moved : (luck : Luck) (k : Ack) (v : Verdict) → ack_verdict p.who p.log k ≡ v → ((b : List Entry) → Linked (pairing p.who p.log b) wire → IsFrameOf (pairing p.who p.log b) from (frame.Ack k)) → Goes wire p (deliver_ack luck p k v).part
+  ack_moved luck k AckNew e acked = record {
     entries = Acked k.side k.upto k.closed ∷ [];
-    moved = moved_quiet luck p p (Acked k.side k.upto k.closed ∷ []) (verdict_told AckNew) h up (record { who = refl; up = refl; log = refl; doubt = refl; few = few_same 2 p.next_handle p.next_tx }) ((refl, tt), tt) live;
+    moved = moved_quiet luck p p (Acked k.side k.upto k.closed ∷ []) (verdict_told AckNew) h up (record { who = refl; up = refl; log = refl; doubt = refl; few = few_same 2 p.next_handle p.next_tx })
+        (brings_none p.who p.log (Acked k.side k.upto k.closed ∷ []) p.next_handle p.open_txns ((refl, tt), tt) (both_true (has_side p.log k.side) true (ack_there p.who p.log k e) refl) refl) live;
     fits = one_fits p.who wire p.log (Acked k.side k.upto k.closed) (acked_fits p.who from wire p.log k acked);
   }
-  ack_moved luck k AckOld acked = stays_go wire p h
-  ack_moved luck k New acked = stays_go wire p h
-  ack_moved luck k Next acked = stays_go wire p h
-  ack_moved luck k Repeat acked = stays_go wire p h
-  ack_moved luck k Gone acked = stays_go wire p h
-  ack_moved luck k Early acked = stays_go wire p h
-  ack_moved luck k (NotHere n) acked = stays_go wire p h
+  ack_moved luck k AckOld e acked = stays_go wire p h
+  ack_moved luck k New e acked = stays_go wire p h
+  ack_moved luck k Next e acked = stays_go wire p h
+  ack_moved luck k Repeat e acked = stays_go wire p h
+  ack_moved luck k Gone e acked = stays_go wire p h
+  ack_moved luck k Early e acked = stays_go wire p h
+  ack_moved luck k (NotHere n) e acked = stays_go wire p h
 
   pub frame_moved : (luck : Luck) (f : Frame) → ((b : List Entry) → Linked (pairing p.who p.log b) wire → IsFrameOf (pairing p.who p.log b) from f) → Goes wire p (deliver_frame luck p f).part
   frame_moved luck (frame.Data d) sent = data_moved luck d (verdict p.who p.log d) refl sent
-  frame_moved luck (frame.Ack k) sent = ack_moved luck k (ack_verdict p.who p.log k) sent
+  frame_moved luck (frame.Ack k) sent = ack_moved luck k (ack_verdict p.who p.log k) refl sent
 
 pub arrive_moved : (wire : List Wired) (p : Part) → PartOk p → HasRoom p → (from : Who) (luck : Luck) (f : Frame) →
     ((b : List Entry) → Linked (pairing p.who p.log b) wire → IsFrameOf (pairing p.who p.log b) from f) → Goes wire p (arrive luck p f).part
@@ -306,22 +424,58 @@ fired_own : (s : SideId) (k : DueKind) → AllByRecursion IsOwn (fired_entry s k
 fired_own s due_kind.Timer = (tt, tt)
 fired_own s due_kind.Lifetime = (tt, tt)
 
+fired_allowed : (log : List Entry) (s : SideId) (k : DueKind) → has_side log s ≡ true → are_allowed_after log (fired_entry s k ∷ []) ≡ true
+fired_allowed log s due_kind.Timer e = both_true (has_side log s) true e refl
+fired_allowed log s due_kind.Lifetime e = both_true (has_side log s) true e refl
+
+fired_makes_none : (s : SideId) (k : DueKind) → makings (fired_entry s k ∷ []) ≡ []
+fired_makes_none s due_kind.Timer = refl
+fired_makes_none s due_kind.Lifetime = refl
+
+abbrev IsThere : List Entry → Due → Type 0
+IsThere log x = has_side log x.side ≡ true
+
+-- what is due is of a side that is there
+due_there : (log : List Entry) (moment : ℕ) → AllByRecursion (IsThere log) (due log moment)
+due_there log moment = all_in_order (IsThere log) due_before (flat_map (due_of log moment) (sides log))
+    (all_flat_map (λ m. made log m.side ≡ Some m) (IsThere log) (due_of log moment) one (sides log) (sides_made log))
+  where
+    by_time : (m : Making) (k : DueKind) (at : Option ℕ) → made log m.side ≡ Some m → AllByRecursion (IsThere log) (due_by moment m.side k at)
+    by_time m k None e = tt
+    by_time m k (Some at) e = by_test (nat_le at moment)
+      where
+        by_test : (c : Bool) → AllByRecursion (IsThere log) (cond c (record { at = at; side = m.side; kind = k } ∷ []) [])
+        by_test true = (made_has_side log m.side m e, tt)
+        by_test false = tt
+
+    one : (m : Making) → made log m.side ≡ Some m → AllByRecursion (IsThere log) (due_of log moment m)
+    one m e = by_test (may_be_due log m.side)
+      where
+        by_test : (c : Bool) → AllByRecursion (IsThere log) (cond c (due_by moment m.side due_kind.Timer (timer_of log m.side) ++ due_by moment m.side due_kind.Lifetime (expiry log m)) [])
+        by_test true = all_append (IsThere log) (due_by moment m.side due_kind.Timer (timer_of log m.side)) (due_by moment m.side due_kind.Lifetime (expiry log m))
+            (by_time m due_kind.Timer (timer_of log m.side) e) (by_time m due_kind.Lifetime (expiry log m) e)
+        by_test false = tt
+
+first_there : (P : Due → Type 0) (ds : List Due) (x : Due) → AllByRecursion P ds → first_due ds ≡ Some x → P x
+first_there P [] x h e = cc
+first_there P (d ∷ ds) x h e = subst P (same_Some d x e) h.0
+
 pub fire_moved : (p : Part) → PartOk p → HasRoom p → (luck : Luck) (moment : ℕ) (handle : Handle) (kind : DueKind) (d : Done) → fire luck p moment handle kind ≡ Some d → Steps p d.part
 fire_moved p h room luck moment handle kind d e = by_up p.up refl e
   where
     none : {P : Type 0} → None ≡ Some d → P
     none k = cc
 
-    by_due : (r : Option Due) → p.up ≡ true →
+    by_due : (r : Option Due) → ((x : Due) → r ≡ Some x → has_side p.log x.side ≡ true) → p.up ≡ true →
         option_and_then (λ x. cond (same_kind x.kind kind && option_eq same_side (side_of p.log handle) (Some x.side)) (Some (append luck p (fired_entry x.side x.kind ∷ []) answer.Fired p)) None) r ≡ Some d → Steps p d.part
-    by_due None up f = none f
-    by_due (Some x) up f = by_test (same_kind x.kind kind && option_eq same_side (side_of p.log handle) (Some x.side)) f
+    by_due None there up f = none f
+    by_due (Some x) there up f = by_test (same_kind x.kind kind && option_eq same_side (side_of p.log handle) (Some x.side)) f
       where
         by_test : (c : Bool) → cond c (Some (append luck p (fired_entry x.side x.kind ∷ []) answer.Fired p)) None ≡ Some d → Steps p d.part
-        by_test true k = subst (λ z. Steps p z.part) (same_Some _ d k) (quiet_moved p h room up luck (fired_entry x.side x.kind ∷ []) answer.Fired (fired_quiet x.side x.kind) (fired_own x.side x.kind))
+        by_test true k = subst (λ z. Steps p z.part) (same_Some _ d k) (quiet_moved p h room up luck (fired_entry x.side x.kind ∷ []) answer.Fired (fired_quiet x.side x.kind) (fired_allowed p.log x.side x.kind (there x refl)) (fired_makes_none x.side x.kind) (fired_own x.side x.kind))
         by_test false k = none k
 
     by_up : (c : Bool) → p.up ≡ c →
         option_and_then (λ x. cond (same_kind x.kind kind && option_eq same_side (side_of p.log handle) (Some x.side)) (Some (append luck p (fired_entry x.side x.kind ∷ []) answer.Fired p)) None) (cond c (first_due (due p.log moment)) None) ≡ Some d → Steps p d.part
-    by_up true up f = by_due (first_due (due p.log moment)) up f
+    by_up true up f = by_due (first_due (due p.log moment)) (λ x k. first_there (λ z. has_side p.log z.side ≡ true) (due p.log moment) x (due_there p.log moment) k) up f
     by_up false up f = none f

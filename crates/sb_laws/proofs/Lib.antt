@@ -5,10 +5,13 @@ pub mod Legality
 pub mod Sides
 pub mod Grow
 pub mod Delivered
+pub mod InTurn
 pub mod Linking
 pub mod Accepting
 pub mod Taking
 pub mod Views
+pub mod Allowed
+pub mod Defines
 pub mod Opens
 pub mod Plans
 pub mod PlanCases

@@ -158,11 +158,11 @@ items_increasing n (Txn a b ∷ log) = items_increasing n log
 items_increasing n (Acked a b c ∷ log) = items_increasing n log
 items_increasing n (QueueSet a b ∷ log) = items_increasing n log
 
-abbrev found : List Item → ℕ → Option Item
+abbrev pub found : List Item → ℕ → Option Item
 found xs n = find (λ item. item.number == n) xs
 
 -- an item of these is found by its number in the others
-abbrev AreFound : List Item → List Item → Type 0
+abbrev pub AreFound : List Item → List Item → Type 0
 AreFound xs zs = AllByRecursion (λ x. found xs x.number ≡ Some x) zs
 
 found_behind : (y : Item) (ys zs : List Item) → AtLeast (y.number + 1) zs → AreFound ys zs → AreFound (y ∷ ys) zs
@@ -187,7 +187,7 @@ found_number true xs z zs s one rest = rw one (ap (λ l. z ∷ l) rest)
 found_number false xs z zs s one rest = rest
 
 -- the numbers of some of the items lead back to these items
-found_numbers : (xs zs : List Item) (s : SideId) → AreFound xs zs → filter_map (found xs) (numbers_of s zs) ≡ filter (λ item. same_side item.side s) zs
+pub found_numbers : (xs zs : List Item) (s : SideId) → AreFound xs zs → filter_map (found xs) (numbers_of s zs) ≡ filter (λ item. same_side item.side s) zs
 found_numbers xs [] s h = refl
 found_numbers xs (z ∷ zs) s h = found_number (same_side z.side s) xs z zs s h.0 (found_numbers xs zs s h.1)
 
@@ -214,7 +214,7 @@ number_step true s n x y ys e f h rest =
     rw same (rw e refl)
 number_step false s n x y ys e f h rest = among_more (same_side y.side s) n y (filter (λ item. same_side item.side s) ys) (rest f)
 
-number_among : (s : SideId) (n : ℕ) (x : Item) (xs : List Item) →
+pub number_among : (s : SideId) (n : ℕ) (x : Item) (xs : List Item) →
     found xs n ≡ Some x → same_side x.side s ≡ true → list_any (λ m. m == n) (numbers_of s xs) ≡ true
 number_among s n x [] f h = cc
 number_among s n x (y ∷ ys) f h = number_step (y.number == n) s n x y ys refl f h (λ g. number_among s n x ys g h)
@@ -229,7 +229,7 @@ other_gives_nothing s n xs None f never = refl
 other_gives_nothing s n xs (Some x) f never =
     received_other (same_side x.side s) s x refl (λ h. let yes : list_any (λ m. m == n) (numbers_of s xs) ≡ true = number_among s n x xs f h in cc)
 
-abbrev mine : List Item → SideId → ℕ → Bool
+abbrev pub mine : List Item → SideId → ℕ → Bool
 mine xs s n = list_any (λ m. m == n) (numbers_of s xs)
 
 abbrev got : List Item → SideId → List ℕ → List Content

@@ -18,13 +18,16 @@ use Rattle.sb_model.specs.Items.{items, items_from, taken, taken_by}
 use Rattle.sb_model.specs.Groups.{group_of}
 use Rattle.sb_model.specs.Transactions.{OpenTransaction, with_ops, is_free, holds_other}
 use Rattle.sb_model.specs.Instance.{low_half}
+use Rattle.sb_model.specs.Logs.{WellFormed, is_allowed, are_ops_allowed}
+use Rattle.sb_model.specs.Statements.{txn_entries}
+use Rattle.sb_laws.proofs.Allowed.{NewIn, initiator_of, has_handle, both_true, new_by_begins, begins_handle, ops_grown, ops_join, entries_join}
 use Rattle.sb_model.specs.Links.{IsSound, BeginsHere, MakesTarget, EndsForGood, sends_on}
 use Rattle.sb_laws.proofs.Growth.{ops_of-append, makings-append, items_from-append}
 use Rattle.sb_laws.proofs.Sides.{sides_same, ids_same}
 use Rattle.sb_laws.proofs.Grow.{all_weaker, all_append, shuts, ended_right, ended_join, ended_behind, or_true_left, or_true_right, or_false}
 use Rattle.sb_laws.proofs.Delivered.{made_has_side}
 use Rattle.sb_laws.proofs.Taking.{InOrder, is_mine, in_order_arrived, in_order_merged, apart_up, new_mine}
-use Rattle.sb_laws.proofs.Views.{ops_view, items_view, taken_view, begins, moves, touches, any_weaker, moves_touches, shuts_touches, sends_touches, has_side_view, begun_in_view, group_view, group_quiet, group_made, no_takes}
+use Rattle.sb_laws.proofs.Views.{txn_is_view, begins_make, ops_view, items_view, taken_view, begins, moves, touches, any_weaker, moves_touches, shuts_touches, sends_touches, has_side_view, begun_in_view, group_view, group_quiet, group_made, no_takes}
 
 clash : {P : Type 0} → true ≡ false → P
 clash e = cc
@@ -36,6 +39,7 @@ AreWithin its ns = AllByRecursion (λ n. n ≤ length its) ns
 -- ---- one log
 
 pub record LogOk (x : Who) (log : List Entry) : Type 0 where
+  pub formed : WellFormed log
   pub sound : IsSound x log
   pub in_order : InOrder (items log) (taken log)
   pub within : AreWithin (items log) (taken log)
@@ -59,6 +63,7 @@ pub record OpenOk (x : Who) (log : List Entry) (next next_tx tx : ℕ) (ops : Li
   pub ended : EndsForGood (ops_of log ++ ops)
   pub in_order : InOrder (items log) (taken log ++ flat_map taken_by ops)
   pub within : AreWithin (items log) (flat_map taken_by ops)
+  pub allowed : are_ops_allowed log tx [] ops ≡ true
 
 -- two open transactions
 pub record Apart (tx : ℕ) (ops : List Op) (groups : List Handle) (other : ℕ) (other_ops : List Op) (other_groups : List Handle) : Type 0 where
@@ -97,9 +102,14 @@ counted_view x log tx ops h ended tags = record {
     targets_view [] = h.sound.targets
     targets_view (o ∷ os) = all_append MakesTarget log (Txn tx (o ∷ os) ∷ []) h.sound.targets (tt, tt)
 
+formed_view : (log : List Entry) (tx : ℕ) (ops : List Op) → WellFormed log → are_ops_allowed log tx [] ops ≡ true → WellFormed (with_ops log tx ops)
+formed_view log tx [] h e = h
+formed_view log tx (op ∷ ops) h e = entries_join [] log (Txn tx (op ∷ ops) ∷ []) h (both_true (are_ops_allowed log tx [] (op ∷ ops)) true e refl)
+
 -- the log after a commit
 pub log_committed : (x : Who) (log : List Entry) (n m tx : ℕ) (ops : List Op) (groups : List Handle) → LogOk x log → OpenOk x log n m tx ops groups → LogOk x (with_ops log tx ops)
 log_committed x log n m tx ops groups h o = record {
+  formed = formed_view log tx ops h.formed o.allowed;
   sound = counted_view x log tx ops h o.ended o.own_tags;
   in_order = subst (λ its. InOrder its (taken (with_ops log tx ops))) (sym (items_view log tx ops)) (subst (InOrder (items log)) (sym (taken_view log tx ops)) o.in_order);
   within = subst (λ its. AreWithin its (taken (with_ops log tx ops))) (sym (items_view log tx ops))
@@ -121,6 +131,7 @@ open_committed x log n m t u ops ups gs hs a b apart = record {
       (subst (λ l. InOrder (items log) (l ++ flat_map taken_by ups)) (sym (taken_view log t ops))
       (in_order_merged (items log) (taken log) (flat_map taken_by ops) (flat_map taken_by ups) a.in_order b.in_order none_of_one));
   within = subst (λ its. AreWithin its (flat_map taken_by ups)) (sym (items_view log t ops)) b.within;
+  allowed = subst (λ l. are_ops_allowed l u [] ups ≡ true) (txn_is_view log t ops) (ops_grown log (txn_entries t ops) u [] ups (new_by_begins (makings (txn_entries t ops)) ups new) b.allowed);
 }
   where
     conflict : (s : SideId) → list_any (touches (items log) s) ops ≡ true → list_any (touches (items log) s) ups ≡ true → ⊥
@@ -132,6 +143,15 @@ open_committed x log n m t u ops ups gs hs a b apart = record {
 
     not_begun : (s : SideId) → list_any (begins s) ups ≡ true → list_any (begins s) ops ≡ false
     not_begun s e = false_or (list_any (begins s) ops) (λ f. apart.begins_apart s f e)
+
+    made_entries : (os : List Op) → makings (txn_entries t os) ≡ flat_map made_by_op os
+    made_entries [] = refl
+    made_entries (o ∷ os) = append-nil (flat_map made_by_op (o ∷ os))
+
+    new : (h : Handle) → list_any (begins (initiator_of h)) ups ≡ true → (list_any (is_of (initiator_of h)) (makings (txn_entries t ops)) ≡ false) × (list_any (has_handle h) (makings (txn_entries t ops)) ≡ false)
+    new h e =
+        let none : list_any (begins (initiator_of h)) ops ≡ false = not_begun (initiator_of h) e in
+        (ap (list_any (is_of (initiator_of h))) (made_entries ops) ∙ begins_make (initiator_of h) ops ∙ none, ap (list_any (has_handle h)) (made_entries ops) ∙ begins_handle h ops ∙ none)
 
     later : (s : SideId) → list_any (touches (items log) s) ups ≡ true → Holds (with_ops log t ops) ups hs s
     later s e = from (b.held s e)
@@ -181,9 +201,9 @@ begins_initiator s (op ∷ ops) e = by_test (begins s op) refl (begins_initiator
     by_test true f rest = one op f
     by_test false f rest = rest (sym (ap (λ c. c || list_any (begins s) ops) f) ∙ e)
 
--- a making that is not a target's is counted
-abbrev pub IsCounted : ℕ → Making → Type 0
-IsCounted next m = m.side.initiator ≡ true → low_half m.side.conversation.0 < next
+-- a making's own handle is counted, and so is its conversation if it isn't a target's
+abbrev pub IsCounted : Who → ℕ → Making → Type 0
+IsCounted x next m = (m.side.initiator ≡ true → low_half m.side.conversation.0 < next) × (IsTrue (is_home x m.handle) → low_half m.handle.0 < next)
 
 module _ (log : List Entry) (e : Entry) (quiet : ops_of (e ∷ []) ≡ []) (target : MakesTarget e) where
   pub ops_quiet : ops_of (log ++ e ∷ []) ≡ ops_of log
@@ -278,12 +298,12 @@ module _ (log : List Entry) (e : Entry) (quiet : ops_of (e ∷ []) ≡ []) (targ
           by_test false g = g
           by_test true g = clash (sym (ap (λ z. z.initiator) (sides_same m.side s g) ∙ i) ∙ h.0)
 
-  pub counted_quiet : (next : ℕ) → AllByRecursion (IsCounted next) (makings log) → AllByRecursion (IsCounted next) (makings (log ++ e ∷ []))
-  counted_quiet next h = subst (AllByRecursion (IsCounted next)) (sym (makings-append log (e ∷ [])))
-      (all_append (IsCounted next) (makings log) (makings (e ∷ [])) h (all_weaker (λ m. m.side.initiator ≡ false) (IsCounted next) (λ m f i. clash (sym i ∙ f)) (makings (e ∷ [])) (makes_no_initiator e quiet target)))
+  pub counted_quiet : (x : Who) (next : ℕ) → AllByRecursion (IsCounted x next) (makings log) → AllByRecursion (IsCounted x next) (makings (e ∷ [])) → AllByRecursion (IsCounted x next) (makings (log ++ e ∷ []))
+  counted_quiet x next h new = subst (AllByRecursion (IsCounted x next)) (sym (makings-append log (e ∷ []))) (all_append (IsCounted x next) (makings log) (makings (e ∷ [])) h new)
 
-  pub log_quiet : (x : Who) → LogOk x log → LogOk x (log ++ e ∷ [])
-  log_quiet x h = record {
+  pub log_quiet : (x : Who) → is_allowed log e ≡ true → LogOk x log → LogOk x (log ++ e ∷ [])
+  log_quiet x allowed h = record {
+    formed = entries_join [] log (e ∷ []) h.formed (both_true (is_allowed log e) true allowed refl);
     sound = record {
       own_tags = subst (AllByRecursion (BeginsHere x)) (sym ops_quiet) h.sound.own_tags;
       targets = all_append MakesTarget log (e ∷ []) h.sound.targets (target, tt);
@@ -293,8 +313,8 @@ module _ (log : List Entry) (e : Entry) (quiet : ops_of (e ∷ []) ≡ []) (targ
     within = subst (AreWithin (items (log ++ e ∷ []))) (sym taken_quiet) (within_quiet (taken log) h.within);
   }
 
-  pub open_quiet : (x : Who) (n m tx : ℕ) (ops : List Op) (groups : List Handle) → LogOk x log → OpenOk x log n m tx ops groups → OpenOk x (log ++ e ∷ []) n m tx ops groups
-  open_quiet x n m tx ops groups h o = record {
+  pub open_quiet : (x : Who) (n m tx : ℕ) (ops : List Op) (groups : List Handle) → AllByRecursion (NewIn (makings (e ∷ []))) ops → LogOk x log → OpenOk x log n m tx ops groups → OpenOk x (log ++ e ∷ []) n m tx ops groups
+  open_quiet x n m tx ops groups new h o = record {
     below = o.below;
     held = λ s f. later s (o.held s (sym (touches_quiet s ops o.within) ∙ f));
     begins_new = λ s f. has_side_quiet s (begins_initiator s ops f) (o.begins_new s f);
@@ -304,6 +324,7 @@ module _ (log : List Entry) (e : Entry) (quiet : ops_of (e ∷ []) ≡ []) (targ
     in_order = subst (λ l. InOrder (items (log ++ e ∷ [])) (l ++ flat_map taken_by ops)) (sym taken_quiet)
         (in_order_quiet (taken log ++ flat_map taken_by ops) (all_append (λ n. n ≤ length (items log)) (taken log) (flat_map taken_by ops) h.within o.within) o.in_order);
     within = within_quiet (flat_map taken_by ops) o.within;
+    allowed = ops_grown log (e ∷ []) tx [] ops new o.allowed;
   }
     where
       later : (s : SideId) → Holds log ops groups s → Holds (log ++ e ∷ []) ops groups s
@@ -333,6 +354,7 @@ open_later x log n m k l tx ops groups le le' o = record {
   ended = o.ended;
   in_order = o.in_order;
   within = o.within;
+  allowed = o.allowed;
 }
 
 -- a transaction that has done nothing
@@ -346,6 +368,7 @@ open_new x log n m tx groups lt h = record {
   ended = subst EndsForGood (sym (append-nil (ops_of log))) h.sound.ended;
   in_order = subst (InOrder (items log)) (sym (append-nil (taken log))) h.in_order;
   within = tt;
+  allowed = refl;
 }
 
 -- ---- a plan in a transaction
@@ -362,6 +385,7 @@ pub record PlanOk (x : Who) (log : List Entry) (opens : List OpenTransaction) (n
   pub ended : EndsForGood (ops_of (with_ops log tx before) ++ ops)
   pub in_order : InOrder (items log) (taken (with_ops log tx before) ++ flat_map taken_by ops)
   pub within : AreWithin (items log) (flat_map taken_by ops)
+  pub allowed : are_ops_allowed log tx before ops ≡ true
 
 any_or : {X : Type 0} (p : X → Bool) (xs ys : List X) → list_any p (xs ++ ys) ≡ true → (list_any p xs ≡ true) ⊎ (list_any p ys ≡ true)
 any_or p xs ys e = by_test (list_any p xs) (list_any p ys) (sym (list_any-append p xs ys) ∙ e)
@@ -419,15 +443,15 @@ old_low next s (op ∷ ops) h e = by_test (begins s op) refl (old_low next s ops
 not_both : (n m : ℕ) → n ≤ m → m < n → ⊥
 not_both n m h k = absurd (omega (arith, h, k))
 
-uncounted : (next : ℕ) (s : SideId) (ms : List Making) → AllByRecursion (IsCounted next) ms → s.initiator ≡ true → next ≤ low_half s.conversation.0 → list_any (is_of s) ms ≡ false
-uncounted next s [] h i le = refl
-uncounted next s (m ∷ ms) h i le = or_false (same_side m.side s) (list_any (is_of s) ms) (by_test (same_side m.side s) refl) (uncounted next s ms h.1 i le)
+pub uncounted : (x : Who) (next : ℕ) (s : SideId) (ms : List Making) → AllByRecursion (IsCounted x next) ms → s.initiator ≡ true → next ≤ low_half s.conversation.0 → list_any (is_of s) ms ≡ false
+uncounted x next s [] h i le = refl
+uncounted x next s (m ∷ ms) h i le = or_false (same_side m.side s) (list_any (is_of s) ms) (by_test (same_side m.side s) refl) (uncounted x next s ms h.1 i le)
   where
     by_test : (b : Bool) → same_side m.side s ≡ b → same_side m.side s ≡ false
     by_test false g = g
     by_test true g =
         let same : m.side ≡ s = sides_same m.side s g in
-        absurd (not_both next (low_half s.conversation.0) le (subst (λ z. low_half z.conversation.0 < next) same (h.0 (ap (λ z. z.initiator) same ∙ i))))
+        absurd (not_both next (low_half s.conversation.0) le (subst (λ z. low_half z.conversation.0 < next) same (h.0.0 (ap (λ z. z.initiator) same ∙ i))))
 
 new_tags : (x : Who) (low high : ℕ) (op : Op) → IsNewBegin x low high op → BeginsHere x op
 new_tags x low high (Begin a b c) h = h.0
@@ -453,7 +477,7 @@ new_below x low high (Delete a b) h = tt
 
 -- the transaction with the plan
 pub open_planned : (x : Who) (log : List Entry) (opens : List OpenTransaction) (next high m tx : ℕ) (before ops : List Op) (held_groups groups : List Handle) → next ≤ high →
-    AllByRecursion (IsCounted next) (makings log) → OpenOk x log next m tx before held_groups → PlanOk x log opens next high tx before ops groups →
+    AllByRecursion (IsCounted x next) (makings log) → OpenOk x log next m tx before held_groups → PlanOk x log opens next high tx before ops groups →
     OpenOk x log high m tx (before ++ ops) (held_groups ++ groups)
 open_planned x log opens next high m tx before ops held_groups groups le counted o p = record {
   below = o.below;
@@ -465,11 +489,12 @@ open_planned x log opens next high m tx before ops held_groups groups le counted
   in_order = subst (InOrder (items log))
       (ap (λ l. l ++ flat_map taken_by ops) (taken_view log tx before) ∙ append_assoc (taken log) (flat_map taken_by before) (flat_map taken_by ops) ∙ ap (λ l. taken log ++ l) (sym (flat_map-append taken_by before ops))) p.in_order;
   within = subst (AreWithin (items log)) (sym (flat_map-append taken_by before ops)) (all_append (λ n. n ≤ length (items log)) (flat_map taken_by before) (flat_map taken_by ops) o.within p.within);
+  allowed = ops_join log tx [] before ops o.allowed p.allowed;
 }
   where
     new : (s : SideId) → (list_any (begins s) before ≡ true) ⊎ (list_any (begins s) ops ≡ true) → has_side log s ≡ false
     new s (inl e) = o.begins_new s e
-    new s (inr e) = uncounted next s (makings log) counted (begins_initiator s ops e) (new_low x next high s ops p.begins_new e)
+    new s (inr e) = uncounted x next s (makings log) counted (begins_initiator s ops e) (new_low x next high s ops p.begins_new e)
 
     grown : (s : SideId) → Holds log before held_groups s → Holds log (before ++ ops) (held_groups ++ groups) s
     grown s (inl q) = inl (any_into_left (begins s) before ops q)
@@ -551,4 +576,4 @@ Pairwise R (x ∷ xs) = AllByRecursion (R x) xs × Pairwise R xs
 pub record LiveOk (x : Who) (log : List Entry) (next next_tx : ℕ) (opens : List OpenTransaction) : Type 0 where
   pub each : AllByRecursion (IsOpenOk x log next next_tx) opens
   pub pairs : Pairwise AreApart opens
-  pub counted : AllByRecursion (IsCounted next) (makings log)
+  pub counted : AllByRecursion (IsCounted x next) (makings log)

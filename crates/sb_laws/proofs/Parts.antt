@@ -24,8 +24,11 @@ use Rattle.sb_model.specs.Rollbacks.{without_open, released}
 use Rattle.sb_model.specs.Replies.{Plan}
 use Rattle.sb_model.specs.Statements.{txn_entries, add_plan, with_plan}
 use Rattle.sb_model.specs.Links.{MakesTarget}
-use Rattle.sb_laws.proofs.Sides.{ids_same}
-use Rattle.sb_laws.proofs.Grow.{all_weaker, all_append}
+use Rattle.sb_model.specs.Sides.{Making, made_by}
+use Rattle.sb_model.specs.Logs.{is_allowed, are_allowed_after}
+use Rattle.sb_laws.proofs.Sides.{ids_same, both_left, both_right}
+use Rattle.sb_laws.proofs.Allowed.{NewIn, new_in_none, new_left, new_right, entries_taken}
+use Rattle.sb_laws.proofs.Grow.{all_weaker, all_append, all_left, all_right}
 use Rattle.sb_laws.proofs.Taking.{all_filter, all_take}
 use Rattle.sb_laws.proofs.Views.{makings_view}
 use Rattle.sb_laws.proofs.Opens.{LogOk, OpenOk, Apart, IsOpenOk, AreApart, Pairwise, LiveOk, IsCounted, BeginsBelow, PlanOk, log_quiet, open_quiet, counted_quiet, open_committed, open_later, open_planned, apart_planned, free_of_others}
@@ -156,17 +159,47 @@ without_pairs U tx p = pairs_map (λ b. ⊤) AreApart AreApart (released tx) (λ
 abbrev pub IsQuiet : Entry → Type 0
 IsQuiet e = (ops_of (e ∷ []) ≡ []) × MakesTarget e
 
-pub log_quiets : (x : Who) (es log : List Entry) → AllByRecursion IsQuiet es → LogOk x log → LogOk x (log ++ es)
-log_quiets x [] log q h = subst (LogOk x) (sym (append-nil log)) h
-log_quiets x (e ∷ es) log q h = subst (LogOk x) (append_assoc log (e ∷ []) es) (log_quiets x es (log ++ e ∷ []) q.1 (log_quiet log e q.0.0 q.0.1 x h))
+-- entries that are allowed one after the other, and whose sides and handles are new
+pub record Brings (x : Who) (log es : List Entry) (next : ℕ) (opens : List OpenTransaction) : Type 0 where
+  pub quiet : AllByRecursion IsQuiet es
+  pub allowed : are_allowed_after log es ≡ true
+  pub new : AllByRecursion (λ o. AllByRecursion (NewIn (makings es)) o.ops) opens
+  pub counted : AllByRecursion (IsCounted x next) (makings es)
 
-pub live_quiets : (x : Who) (es log : List Entry) (n m : ℕ) (U : List OpenTransaction) → AllByRecursion IsQuiet es → LogOk x log → LiveOk x log n m U → LiveOk x (log ++ es) n m U
-live_quiets x [] log n m U q h l = subst (λ k. LiveOk x k n m U) (sym (append-nil log)) l
-live_quiets x (e ∷ es) log n m U q h l = subst (λ k. LiveOk x k n m U) (append_assoc log (e ∷ []) es)
-    (live_quiets x es (log ++ e ∷ []) n m U q.1 (log_quiet log e q.0.0 q.0.1 x h) (record {
-      each = all_weaker (IsOpenOk x log n m) (IsOpenOk x (log ++ e ∷ []) n m) (λ o k. open_quiet log e q.0.0 q.0.1 x n m o.tx o.ops o.groups h k) U l.each;
+-- entries that make no side
+pub brings_none : (x : Who) (log es : List Entry) (next : ℕ) (opens : List OpenTransaction) → AllByRecursion IsQuiet es → are_allowed_after log es ≡ true → makings es ≡ [] → Brings x log es next opens
+brings_none x log es next opens quiet allowed none = record {
+  quiet = quiet;
+  allowed = allowed;
+  new = every opens;
+  counted = subst (AllByRecursion (IsCounted x next)) (sym none) tt;
+}
+  where
+    every : (V : List OpenTransaction) → AllByRecursion (λ o. AllByRecursion (NewIn (makings es)) o.ops) V
+    every [] = tt
+    every (o ∷ V) = (subst (λ ms. AllByRecursion (NewIn ms) o.ops) (sym none) (new_in_none o.ops), every V)
+
+pub log_quiets : (x : Who) (es log : List Entry) → AllByRecursion IsQuiet es → are_allowed_after log es ≡ true → LogOk x log → LogOk x (log ++ es)
+log_quiets x [] log q a h = subst (LogOk x) (sym (append-nil log)) h
+log_quiets x (e ∷ es) log q a h = subst (LogOk x) (append_assoc log (e ∷ []) es)
+    (log_quiets x es (log ++ e ∷ []) q.1 (both_right (is_allowed log e) (are_allowed_after (log ++ e ∷ []) es) a) (log_quiet log e q.0.0 q.0.1 x (both_left (is_allowed log e) (are_allowed_after (log ++ e ∷ []) es) a) h))
+
+pub live_quiets : (x : Who) (es log : List Entry) (n m : ℕ) (U : List OpenTransaction) → Brings x log es n U → LogOk x log → LiveOk x log n m U → LiveOk x (log ++ es) n m U
+live_quiets x [] log n m U b h l = subst (λ k. LiveOk x k n m U) (sym (append-nil log)) l
+live_quiets x (e ∷ es) log n m U b h l =
+    let first : is_allowed log e ≡ true = both_left (is_allowed log e) (are_allowed_after (log ++ e ∷ []) es) b.allowed in
+    let none : makings (e ∷ []) ≡ made_by e = append-nil (made_by e) in
+    subst (λ k. LiveOk x k n m U) (append_assoc log (e ∷ []) es)
+    (live_quiets x es (log ++ e ∷ []) n m U (record {
+      quiet = b.quiet.1;
+      allowed = both_right (is_allowed log e) (are_allowed_after (log ++ e ∷ []) es) b.allowed;
+      new = all_weaker (λ o. AllByRecursion (NewIn (makings (e ∷ es))) o.ops) (λ o. AllByRecursion (NewIn (makings es)) o.ops) (λ o k. new_right (made_by e) (makings es) o.ops k) U b.new;
+      counted = all_right (IsCounted x n) (made_by e) (makings es) b.counted;
+    }) (log_quiet log e b.quiet.0.0 b.quiet.0.1 x first h) (record {
+      each = all_with (IsOpenOk x log n m) (λ o. AllByRecursion (NewIn (makings (e ∷ es))) o.ops) (IsOpenOk x (log ++ e ∷ []) n m)
+          (λ o k f. open_quiet log e b.quiet.0.0 b.quiet.0.1 x n m o.tx o.ops o.groups (subst (λ ms. AllByRecursion (NewIn ms) o.ops) (sym none) (new_left (made_by e) (makings es) o.ops f)) h k) U l.each b.new;
       pairs = l.pairs;
-      counted = counted_quiet log e q.0.0 q.0.1 n l.counted;
+      counted = counted_quiet log e b.quiet.0.0 b.quiet.0.1 x n l.counted (subst (AllByRecursion (IsCounted x n)) (sym none) (all_left (IsCounted x n) (made_by e) (makings es) b.counted));
     }))
 
 -- ---- a transaction's entry
@@ -180,26 +213,29 @@ log_txn x log tx (op ∷ ops) (suc k) h v = subst (λ l. LogOk x (log ++ Txn tx 
     nothing zero = refl
     nothing (suc j) = refl
 
-counted_ops : (next : ℕ) (ops : List Op) → AllByRecursion (BeginsBelow next) ops → AllByRecursion (IsCounted next) (flat_map made_by_op ops)
-counted_ops next [] h = tt
-counted_ops next (Begin a b c ∷ ops) h = ((λ e. h.0), counted_ops next ops h.1)
-counted_ops next (Send a b c ∷ ops) h = counted_ops next ops h.1
-counted_ops next (Took a b ∷ ops) h = counted_ops next ops h.1
-counted_ops next (End a b ∷ ops) h = counted_ops next ops h.1
-counted_ops next (Cleanup a ∷ ops) h = counted_ops next ops h.1
-counted_ops next (Move a b ∷ ops) h = counted_ops next ops h.1
-counted_ops next (Timer a b ∷ ops) h = counted_ops next ops h.1
-counted_ops next (Put a b c d ∷ ops) h = counted_ops next ops h.1
-counted_ops next (Delete a b ∷ ops) h = counted_ops next ops h.1
+pub counted_ops : (x : Who) (next : ℕ) (ops : List Op) → AllByRecursion (BeginsBelow next) ops → AllByRecursion (IsCounted x next) (flat_map made_by_op ops)
+counted_ops x next [] h = tt
+counted_ops x next (Begin a b c ∷ ops) h = (((λ e. h.0), (λ e. h.0)), counted_ops x next ops h.1)
+counted_ops x next (Send a b c ∷ ops) h = counted_ops x next ops h.1
+counted_ops x next (Took a b ∷ ops) h = counted_ops x next ops h.1
+counted_ops x next (End a b ∷ ops) h = counted_ops x next ops h.1
+counted_ops x next (Cleanup a ∷ ops) h = counted_ops x next ops h.1
+counted_ops x next (Move a b ∷ ops) h = counted_ops x next ops h.1
+counted_ops x next (Timer a b ∷ ops) h = counted_ops x next ops h.1
+counted_ops x next (Put a b c d ∷ ops) h = counted_ops x next ops h.1
+counted_ops x next (Delete a b ∷ ops) h = counted_ops x next ops h.1
+
+pub counted_later : (x : Who) (n high : ℕ) → n ≤ high → (k : Making) → IsCounted x n k → IsCounted x high k
+counted_later x n high le k h = ((λ e. let b = h.0 e in omega (arith, b, le)), (λ e. let b = h.1 e in omega (arith, b, le)))
 
 -- after a commit of operations, from which the others stay apart
 pub live_committed : (x : Who) (log : List Entry) (n m tx : ℕ) (ops : List Op) (groups : List Handle) (U V : List OpenTransaction) → OpenOk x log n m tx ops groups →
-    AllByRecursion (λ b. IsOpenOk x log n m b × Apart tx ops groups b.tx b.ops b.groups) V → Pairwise AreApart V → AllByRecursion (IsCounted n) (makings log) → LiveOk x (with_ops log tx ops) n m V
+    AllByRecursion (λ b. IsOpenOk x log n m b × Apart tx ops groups b.tx b.ops b.groups) V → Pairwise AreApart V → AllByRecursion (IsCounted x n) (makings log) → LiveOk x (with_ops log tx ops) n m V
 live_committed x log n m tx ops groups U V o each pairs counted = record {
   each = all_weaker (λ b. IsOpenOk x log n m b × Apart tx ops groups b.tx b.ops b.groups) (IsOpenOk x (with_ops log tx ops) n m)
       (λ b k. open_committed x log n m tx b.tx ops b.ops groups b.groups o k.0 k.1) V each;
   pairs = pairs;
-  counted = subst (AllByRecursion (IsCounted n)) (sym (makings_view log tx ops)) (all_append (IsCounted n) (makings log) (flat_map made_by_op ops) counted (counted_ops n ops o.begins_below));
+  counted = subst (AllByRecursion (IsCounted x n)) (sym (makings_view log tx ops)) (all_append (IsCounted x n) (makings log) (flat_map made_by_op ops) counted (counted_ops x n ops o.begins_below));
 }
 
 -- ---- one instance
@@ -333,11 +369,11 @@ append_few Q luck p after (e ∷ es) told a b = by_room (no_room p (e ∷ es))
     by_room None = by_luck (luck_at p.end luck)
 
 -- quiet entries
-pub moved_quiet : (luck : Luck) (p after : Part) (es : List Entry) (told : Answer) → PartOk p → p.up ≡ true → SameLog p after → AllByRecursion IsQuiet es →
+pub moved_quiet : (luck : Luck) (p after : Part) (es : List Entry) (told : Answer) → PartOk p → p.up ≡ true → SameLog p after → Brings p.who p.log es after.next_handle after.open_txns →
     LiveOk p.who p.log after.next_handle after.next_tx after.open_txns → Moved p (append luck p es told after).part es
-moved_quiet luck p after es told h up s quiet live = moved_append luck p after es told h up s
-    (λ k. log_quiets p.who (take k es) p.log (all_take IsQuiet k es quiet) (log_ok p h))
-    (live_quiets p.who es p.log after.next_handle after.next_tx after.open_txns quiet (log_ok p h) live)
+moved_quiet luck p after es told h up s brings live = moved_append luck p after es told h up s
+    (λ k. log_quiets p.who (take k es) p.log (all_take IsQuiet k es brings.quiet) (entries_taken p.log es k brings.allowed) (log_ok p h))
+    (live_quiets p.who es p.log after.next_handle after.next_tx after.open_txns brings (log_ok p h) live)
 
 -- ---- an open transaction that ends or commits
 
@@ -413,5 +449,5 @@ module _ (x : Who) (log : List Entry) (n high m : ℕ) (U : List OpenTransaction
   live_planned = record {
     each = all_map Info (IsOpenOk x log high m) (add_plan o.tx planned) one_open U infos;
     pairs = pairs_map Info AreApart AreApart (add_plan o.tx planned) two_apart U infos l.pairs;
-    counted = all_weaker (IsCounted n) (IsCounted high) (λ k h e. let b = h e in omega (arith, b, le)) (makings log) l.counted;
+    counted = all_weaker (IsCounted x n) (IsCounted x high) (counted_later x n high le) (makings log) l.counted;
   }

@@ -1,6 +1,6 @@
 -- Each row of the table of requests meets what a plan owes.
-use Rattle.std.proofs.Common.{◌≡◌, ℕ, Bool, true, false, List, [], ◌∷◌, ◌+◌, ◌^◌, ◌≤◌, ◌<◌, Option, Some, None, Result, Ok, Err, refl, sym, ◌∙◌, ap, subst, length, arith, cond}
-use Rattle.std.specs.Prelude.{ℤ, find, not, ◌&&◌, ◌||◌, option_map, option_and_then, is_none, unwrap_or, nat_lt, nat_abs}
+use Rattle.std.proofs.Common.{◌≡◌, ℕ, Bool, true, false, List, [], ◌∷◌, ◌+◌, ◌^◌, ◌≤◌, ◌<◌, Option, Some, None, Result, Ok, Err, refl, sym, ◌∙◌, ap, subst, length, arith, cond, inl, inr}
+use Rattle.std.specs.Prelude.{ℤ, find, not, ◌&&◌, ◌||◌, option_map, option_and_then, is_none, is_some, unwrap_or, nat_lt, nat_abs}
 use Rattle.std.specs.List.{list_any, AllByRecursion}
 use Rattle.std.proofs.lemmas.Option.{same_Some}
 use Rattle.sb_log.specs.declared.identifiers.Handle.{Handle}
@@ -47,8 +47,12 @@ use Rattle.sb_laws.proofs.Sides.{sides_same, id_self}
 use Rattle.sb_laws.proofs.Grow.{shuts, or_true_left, or_false, or_false_left, or_false_right}
 use Rattle.sb_laws.proofs.Linking.{sides_made}
 use Rattle.sb_laws.proofs.Views.{touches, made_group}
-use Rattle.sb_laws.proofs.Opens.{LogOk, IsNewBegin}
-use Rattle.sb_laws.proofs.Plans.{PlanFacts, err_ok, ok_ok, need_ok, refuse_ok, unless_ok, map_none, map_some, plain_facts, side_facts, begin_facts, received_facts, group_facts, drawn_home, drawn_low, IsPlain}
+use Rattle.sb_model.specs.Logs.{is_op_allowed}
+use Rattle.sb_model.specs.Sides.{makings, has_side}
+use Rattle.sb_laws.proofs.Allowed.{AllowedIn, has_handle, initiator_of, both_true}
+use Rattle.sb_laws.proofs.Delivered.{made_has_side}
+use Rattle.sb_laws.proofs.Opens.{LogOk, IsNewBegin, IsCounted, uncounted}
+use Rattle.sb_laws.proofs.Plans.{PlanFacts, err_ok, ok_ok, need_ok, refuse_ok, unless_ok, map_none, map_some, plain_facts, side_facts, begin_facts, received_facts, group_facts, drawn_home, drawn_low, drawn_new, IsPlain}
 
 clash : {P : Type 0} → true ≡ false → P
 clash e = cc
@@ -135,7 +139,7 @@ may_send_open log s h =
 abbrev pub IsFine : Ask → Plan → Type 0
 IsFine a p = PlanFacts a.who (seen a) a.open_txns a.next (a.next + p.drawn) a.tx p.ops p.groups
 
-module _ (a : Ask) (ok : LogOk a.who (seen a)) (room : a.next + 2 < 2 ^ 64) where
+module _ (a : Ask) (ok : LogOk a.who (seen a)) (counted : AllByRecursion (IsCounted a.who a.next) (makings (seen a))) (room : a.next + 2 < 2 ^ 64) where
   answer : (groups : List Handle) (keys : List Key) (ops : List Op) (drawn : ℕ) (r : Reply) (p : Plan) →
       ◌≡◌ {A = Planned} (Ok (record { groups = groups; keys = keys; ops = ops; drawn = drawn; reply = r })) (Ok p) →
       PlanFacts a.who (seen a) a.open_txns a.next (a.next + drawn) a.tx ops groups → IsFine a p
@@ -145,10 +149,10 @@ module _ (a : Ask) (ok : LogOk a.who (seen a)) (room : a.next + 2 < 2 ^ 64) wher
   Facts0 ops groups = PlanFacts a.who (seen a) a.open_txns a.next (a.next + 0) a.tx ops groups
 
   -- an operation on a live side
-  on_side : (op : Op) (s : SideId) (groups : List Handle) → IsLive (seen a) s → ((t : SideId) → touches (items (seen a)) t op ≡ true → s ≡ t) → list_any (same_id (own_group a s)) groups ≡ true →
+  on_side : (op : Op) (s : SideId) (groups : List Handle) → is_op_allowed (seen a) op ≡ has_side (seen a) s → IsLive (seen a) s → ((t : SideId) → touches (items (seen a)) t op ≡ true → s ≡ t) → list_any (same_id (own_group a s)) groups ≡ true →
       AllByRecursion (λ k. is_free a.open_txns k a.tx ≡ true) groups → ((t : SideId) → sends_on t op ≡ true → list_any (shuts t) (ops_of (seen a)) ≡ false) → SilentAfter op [] → taken_by op ≡ [] → IsNewBegin a.who a.next (a.next + 0) op → Facts0 (op ∷ []) groups
-  on_side op s groups h only held free silent last none new =
-      side_facts a.who (seen a) a.open_txns a.next (a.next + 0) a.tx ok (omega arith) op s (own_group a s) groups only (grouped_by a s h) held free silent last none new
+  on_side op s groups allowed h only held free silent last none new =
+      side_facts a.who (seen a) a.open_txns a.next (a.next + 0) a.tx ok (omega arith) op s (own_group a s) groups (allowed ∙ made_has_side (seen a) s h.making h.from_log) only (grouped_by a s h) held free silent last none new
 
   one_group : (g : Handle) → list_any (same_id g) (g ∷ []) ≡ true
   one_group g = or_true_left (same_id g g) false (id_self g)
@@ -172,17 +176,23 @@ module _ (a : Ask) (ok : LogOk a.who (seen a)) (room : a.next + 2 < 2 ^ 64) wher
     expires = expires a lifetime;
   }
 
-  begun_fine : (from to : Bytes) (instance : Option Handle) (contract : Bytes) (g : Handle) (d : ℕ) (lifetime : Option ℤ) (p : Plan) → 1 ≤ d → d ≤ 2 →
+  may_begin : (g : Handle) (header : Header) → is_some (find_service (seen a) header.from_service) ≡ true → is_op_allowed (seen a) (Begin (drawn_handle a 0) g header) ≡ true
+  may_begin g header service = both_true (not (has_side (seen a) (initiator_of (drawn_handle a 0))) && not (list_any (has_handle (drawn_handle a 0)) (makings (seen a)))) (is_some (find_service (seen a) header.from_service))
+      (both_true (not (has_side (seen a) (initiator_of (drawn_handle a 0)))) (not (list_any (has_handle (drawn_handle a 0)) (makings (seen a))))
+      (ap not (uncounted a.who a.next (initiator_of (drawn_handle a 0)) (makings (seen a)) counted refl (omega (arith, drawn_low a.who a.next (omega (arith, room))))))
+      (ap not (drawn_new a.who a.next (omega (arith, room)) (makings (seen a)) counted))) service
+
+  begun_fine : (from to : Bytes) (instance : Option Handle) (contract : Bytes) (g : Handle) (d : ℕ) (lifetime : Option ℤ) (p : Plan) → is_some (find_service (seen a) from) ≡ true → 1 ≤ d → d ≤ 2 →
       with_group a g (begun a from to instance contract g d lifetime) ≡ Ok p → IsFine a p
-  begun_fine from to instance contract g d lifetime p le most e =
+  begun_fine from to instance contract g d lifetime p service le most e =
       let r = with_group_ok a g (begun a from to instance contract g d lifetime) p e in
       let header : Header = new_header from to instance contract lifetime in
-      answer (g ∷ []) [] (Begin (drawn_handle a 0) g header ∷ []) d (reply.Dialog (drawn_handle a 0) g) p r.1 (begin_facts a.who (seen a) a.open_txns a.next (a.next + d) a.tx ok (omega (arith, most)) (drawn_handle a 0) g header (new_begin d g header le) r.0)
+      answer (g ∷ []) [] (Begin (drawn_handle a 0) g header ∷ []) d (reply.Dialog (drawn_handle a 0) g) p r.1 (begin_facts a.who (seen a) a.open_txns a.next (a.next + d) a.tx ok (omega (arith, most)) (drawn_handle a 0) g header (may_begin g header service) (new_begin d g header le) r.0)
 
-  begin_in_fine : (from to : Bytes) (instance : Option Handle) (contract : Bytes) (lifetime : Option ℤ) (o : Option Handle) (p : Plan) →
+  begin_in_fine : (from to : Bytes) (instance : Option Handle) (contract : Bytes) (lifetime : Option ℤ) (o : Option Handle) (p : Plan) → is_some (find_service (seen a) from) ≡ true →
       begin_in a from to instance contract lifetime o ≡ Ok p → IsFine a p
-  begin_in_fine from to instance contract lifetime (Some g) p e = begun_fine from to instance contract g 1 lifetime p (omega arith) (omega arith) e
-  begin_in_fine from to instance contract lifetime None p e = begun_fine from to instance contract (drawn_handle a 1) 2 lifetime p (omega arith) (omega arith) e
+  begin_in_fine from to instance contract lifetime (Some g) p service e = begun_fine from to instance contract g 1 lifetime p service (omega arith) (omega arith) e
+  begin_in_fine from to instance contract lifetime None p service e = begun_fine from to instance contract (drawn_handle a 1) 2 lifetime p service (omega arith) (omega arith) e
 
   relation_ok : (r : Relation) (rest : Planned) (p : Plan) → with_relation a r rest ≡ Ok p → rest ≡ Ok p
   relation_ok relation.Alone rest p e = e
@@ -214,7 +224,7 @@ module _ (a : Ask) (ok : LogOk a.who (seen a)) (room : a.next + 2 < 2 ^ 64) wher
       let r2 = refuse_ok (not (may_send (state_of (seen a) s))) _ _ p r1.1 in
       let r6 = typed_ok s kind empty body p r2.1 in
       answer (own_group a s ∷ []) [] (Send s kind body ∷ []) 0 reply.Done p r6
-      (on_side (Send s kind body) s (own_group a s ∷ []) (live_is a handle s l) (λ t f. sides_same s t f) (one_group (own_group a s)) (r1.0, tt)
+      (on_side (Send s kind body) s (own_group a s ∷ []) refl (live_is a handle s l) (λ t f. sides_same s t f) (one_group (own_group a s)) (r1.0, tt)
       (λ t f. subst (λ z. list_any (shuts z) (ops_of (seen a)) ≡ false) (sides_same s t f) (may_send_open (seen a) s (not_not (may_send (state_of (seen a) s)) r2.0))) tt refl tt)
     where
       not_not : (b : Bool) → not b ≡ false → b ≡ true
@@ -228,31 +238,31 @@ module _ (a : Ask) (ok : LogOk a.who (seen a)) (room : a.next + 2 < 2 ^ 64) wher
       let r1 = with_group_ok a (own_group a s) _ p r0.2 in
       let r2 = refuse_ok _ _ _ p r1.1 in
       answer (own_group a s ∷ []) [] _ 0 reply.Done p r2.1
-      (on_side _ s (own_group a s ∷ []) (live_is a handle s r0.1) (λ t f. sides_same s t f) (one_group (own_group a s)) (r1.0, tt) (λ t f. clash (sym f)) refl refl tt)
+      (on_side _ s (own_group a s ∷ []) refl (live_is a handle s r0.1) (λ t f. sides_same s t f) (one_group (own_group a s)) (r1.0, tt) (λ t f. clash (sym f)) refl refl tt)
 
-  rows_fine : (keys : List Key) (ops : List Op) (r : Reply) (p : Plan) → AllByRecursion (IsPlain a.who (seen a) a.open_txns a.next (a.next + 0) a.tx ok (omega arith)) ops → EndsForGood ops →
+  rows_fine : (keys : List Key) (ops : List Op) (r : Reply) (p : Plan) → AllowedIn (seen a) ops → AllByRecursion (IsPlain a.who (seen a) a.open_txns a.next (a.next + 0) a.tx ok (omega arith)) ops → EndsForGood ops →
       ◌≡◌ {A = Planned} (Ok (record { groups = []; keys = keys; ops = ops; drawn = 0; reply = r })) (Ok p) → IsFine a p
-  rows_fine keys ops r p plain ends e = answer [] keys ops 0 r p e (plain_facts a.who (seen a) a.open_txns a.next (a.next + 0) a.tx ok (omega arith) ops [] plain ends tt)
+  rows_fine keys ops r p allowed plain ends e = answer [] keys ops 0 r p e (plain_facts a.who (seen a) a.open_txns a.next (a.next + 0) a.tx ok (omega arith) ops [] allowed plain ends tt)
 
   insert_fine : (t : Bytes) (k : ℤ) (n : Option ℤ) (body : Option Bytes) (o : Option Row) (p : Plan) → insert_at t k n body o ≡ Ok p → IsFine a p
-  insert_fine t k n body None p e = rows_fine _ _ _ p (((λ s. refl), (λ s. refl), refl, tt), tt) (tt, tt) e
+  insert_fine t k n body None p e = rows_fine _ _ _ p (inl (_, refl, refl)) (((λ s. refl), (λ s. refl), refl, tt), tt) (tt, tt) e
   insert_fine t k n body (Some found) p e = err_ok _ p e
 
   value_fine : (t : Bytes) (k : ℤ) (body : Option Bytes) (v : Result (Option ℤ) Refusal) (p : Plan) → and_then v (λ value. rows_planned t k (Put t k value body ∷ []) 1 None) ≡ Ok p → IsFine a p
-  value_fine t k body (Ok value) p e = rows_fine _ _ _ p (((λ s. refl), (λ s. refl), refl, tt), tt) (tt, tt) e
+  value_fine t k body (Ok value) p e = rows_fine _ _ _ p (inl (_, refl, refl)) (((λ s. refl), (λ s. refl), refl, tt), tt) (tt, tt) e
   value_fine t k body (Err r) p e = err_ok r p e
 
   update_fine : (t : Bytes) (k : ℤ) (n : Option NumberChange) (body : Option (Option Bytes)) (o : Option Row) (p : Plan) → update_at t k n body o ≡ Ok p → IsFine a p
-  update_fine t k n body None p e = rows_fine _ [] _ p tt tt e
+  update_fine t k n body None p e = rows_fine _ [] _ p (inr tt) tt tt e
   update_fine t k n body (Some found) p e = value_fine t k (unwrap_or body found.body) (changed found.n n) p e
 
   delete_fine : (t : Bytes) (k : ℤ) (o : Option Row) (p : Plan) → delete_at t k o ≡ Ok p → IsFine a p
-  delete_fine t k None p e = rows_fine _ [] _ p tt tt e
-  delete_fine t k (Some found) p e = rows_fine _ _ _ p (((λ s. refl), (λ s. refl), refl, tt), tt) (tt, tt) e
+  delete_fine t k None p e = rows_fine _ [] _ p (inr tt) tt tt e
+  delete_fine t k (Some found) p e = rows_fine _ _ _ p (inl (_, refl, refl)) (((λ s. refl), (λ s. refl), refl, tt), tt) (tt, tt) e
 
   read_fine : (t : Bytes) (k : ℤ) (o : Option Row) (p : Plan) → read_at t k o ≡ Ok p → IsFine a p
-  read_fine t k None p e = rows_fine _ [] _ p tt tt e
-  read_fine t k (Some found) p e = rows_fine _ [] _ p tt tt e
+  read_fine t k None p e = rows_fine _ [] _ p (inr tt) tt tt e
+  read_fine t k (Some found) p e = rows_fine _ [] _ p (inr tt) tt tt e
 
   row_ok : (t : Bytes) (k : ℤ) (rest : Option Row → Planned) (p : Plan) → with_row a t k rest ≡ Ok p → ((o : Option Row) → rest o ≡ Ok p → IsFine a p) → IsFine a p
   row_ok t k rest p e f =
@@ -260,12 +270,12 @@ module _ (a : Ask) (ok : LogOk a.who (seen a)) (room : a.next + 2 < 2 ^ 64) wher
       let r1 = unless_ok (option_map refusal.RowHeld (key_holder a.open_txns (key t k) a.tx)) (rest (rows_of (seen a) t k)) p r0.2 in
       f (rows_of (seen a) t k) r1.1
 
-  received_fine : (q : Bytes) (n : Option ℕ) (f : Filter) (o : Option Pick) (p : Plan) → pick a.log a.open_txns a.tx q n f ≡ o → received a q o ≡ Ok p → IsFine a p
-  received_fine q n f None p g e = rows_fine _ [] _ p tt tt e
-  received_fine q n f (Some k) p g e = answer (k.group ∷ []) [] _ 0 _ p e (received_facts a.who (seen a) a.open_txns a.next (a.next + 0) a.tx ok (omega arith) q n f k g)
+  received_fine : (q : Bytes) (n : Option ℕ) (f : Filter) (o : Option Pick) (p : Plan) → is_some (find_queue (seen a) q) ≡ true → pick a.log a.open_txns a.tx q n f ≡ o → received a q o ≡ Ok p → IsFine a p
+  received_fine q n f None p named g e = rows_fine _ [] _ p (inr tt) tt tt e
+  received_fine q n f (Some k) p named g e = answer (k.group ∷ []) [] _ 0 _ p e (received_facts a.who (seen a) a.open_txns a.next (a.next + 0) a.tx ok (omega arith) q n f k named g)
 
   grouped_fine : (q : Bytes) (o : Option Pick) (p : Plan) → pick a.log a.open_txns a.tx q None filters.All ≡ o → grouped o ≡ Ok p → IsFine a p
-  grouped_fine q None p g e = rows_fine _ [] _ p tt tt e
+  grouped_fine q None p g e = rows_fine _ [] _ p (inr tt) tt tt e
   grouped_fine q (Some k) p g e = answer (k.group ∷ []) [] [] 0 _ p e (group_facts a.who (seen a) a.open_txns a.next (a.next + 0) a.tx ok (omega arith) q None filters.All k g)
 
   filter_ok : (f : Filter) (rest : Planned) (p : Plan) → with_filter a f rest ≡ Ok p → rest ≡ Ok p
@@ -283,7 +293,7 @@ module _ (a : Ask) (ok : LogOk a.who (seen a)) (room : a.next + 2 < 2 ^ 64) wher
       let r3 = refuse_ok (not (is_name to)) _ _ p r2.2 in
       let r4 = number_ok lifetime _ p r3.1 in
       let r5 = relation_ok rel _ p r4 in
-      begin_in_fine from to instance r2.0.name lifetime (related a rel) p r5
+      begin_in_fine from to instance r2.0.name lifetime (related a rel) p (ap is_some r1.1) r5
   plan_fine (request.Send handle kind body) p e =
       let r1 = need_ok (find_message_type (seen a) (unwrap_or kind default_name)) _ _ p e in
       let r2 = need_ok (live a handle) _ _ p r1.2 in
@@ -294,7 +304,7 @@ module _ (a : Ask) (ok : LogOk a.who (seen a)) (room : a.next + 2 < 2 ^ 64) wher
       let r3 = filter_ok f _ p r2 in
       let n : Option ℕ = option_map nat_abs top in
       let r4 = unless_ok (queue_refusal q) (received a q (pick a.log a.open_txns a.tx q n f)) p r3 in
-      received_fine q n f (pick a.log a.open_txns a.tx q n f) p refl r4.1
+      received_fine q n f (pick a.log a.open_txns a.tx q n f) p (ap is_some r1.1) refl r4.1
   plan_fine (request.GetGroup q) p e =
       let r1 = need_ok (find_queue (seen a) q) _ _ p e in
       let r2 = unless_ok (queue_refusal q) (grouped (pick a.log a.open_txns a.tx q None filters.All)) p r1.2 in
@@ -307,7 +317,7 @@ module _ (a : Ask) (ok : LogOk a.who (seen a)) (room : a.next + 2 < 2 ^ 64) wher
       let r3 = with_group_ok a g _ p r2.1 in
       let r4 = refuse_ok _ _ _ p r3.1 in
       answer (own_group a s ∷ g ∷ []) [] (Move s g ∷ []) 0 reply.Done p r4.1
-      (on_side (Move s g) s (own_group a s ∷ g ∷ []) (live_is a handle s r0.1) (λ t f. sides_same s t f) (or_true_left (same_id (own_group a s) (own_group a s)) _ (id_self (own_group a s))) (r2.0, (r3.0, tt)) (λ t f. clash (sym f)) tt refl tt)
+      (on_side (Move s g) s (own_group a s ∷ g ∷ []) refl (live_is a handle s r0.1) (λ t f. sides_same s t f) (or_true_left (same_id (own_group a s) (own_group a s)) _ (id_self (own_group a s))) (r2.0, (r3.0, tt)) (λ t f. clash (sym f)) tt refl tt)
   plan_fine (request.End handle how.Plain) p e = end_fine handle final.EndDialog p e
   plan_fine (request.End handle (how.Error code text)) p e =
       let last : Final = final.Error (nat_abs code) text in
@@ -319,7 +329,7 @@ module _ (a : Ask) (ok : LogOk a.who (seen a)) (room : a.next + 2 < 2 ^ 64) wher
       let s : SideId = r0.0 in
       let r1 = with_group_ok a (own_group a s) _ p r0.2 in
       answer (own_group a s ∷ []) [] (Cleanup s ∷ []) 0 reply.Done p r1.1
-      (on_side (Cleanup s) s (own_group a s ∷ []) (live_is a handle s r0.1) (λ t f. sides_same s t f) (one_group (own_group a s)) (r1.0, tt) (λ t f. clash (sym f)) refl refl tt)
+      (on_side (Cleanup s) s (own_group a s ∷ []) refl (live_is a handle s r0.1) (λ t f. sides_same s t f) (one_group (own_group a s)) (r1.0, tt) (λ t f. clash (sym f)) refl refl tt)
   plan_fine (request.Timer handle seconds) p e =
       let r1 = refuse_ok _ _ _ p e in
       let r0 = need_ok (live a handle) _ _ p r1.1 in
@@ -327,13 +337,13 @@ module _ (a : Ask) (ok : LogOk a.who (seen a)) (room : a.next + 2 < 2 ^ 64) wher
       let r2 = with_group_ok a (own_group a s) _ p r0.2 in
       let r3 = refuse_ok _ _ _ p r2.1 in
       answer (own_group a s ∷ []) [] _ 0 reply.Done p r3.1
-      (on_side _ s (own_group a s ∷ []) (live_is a handle s r0.1) (λ t f. sides_same s t f) (one_group (own_group a s)) (r2.0, tt) (λ t f. clash (sym f)) tt refl tt)
+      (on_side _ s (own_group a s ∷ []) refl (live_is a handle s r0.1) (λ t f. sides_same s t f) (one_group (own_group a s)) (r2.0, tt) (λ t f. clash (sym f)) tt refl tt)
   plan_fine (request.Insert t k n body) p e = row_ok t k (insert_at t k n body) p e (λ o f. insert_fine t k n body o p f)
   plan_fine (request.Update t k n body) p e = row_ok t k (update_at t k n body) p e (λ o f. update_fine t k n body o p f)
   plan_fine (request.Delete t k) p e = row_ok t k (delete_at t k) p e (λ o f. delete_fine t k o p f)
   plan_fine (request.Read t k) p e = row_ok t k (read_at t k) p e (λ o f. read_fine t k o p f)
-  plan_fine (request.Define ddl) p e = rows_fine _ [] _ p tt tt e
-  plan_fine (request.AlterQueue q on) p e = rows_fine _ [] _ p tt tt e
-  plan_fine request.Begin p e = rows_fine _ [] _ p tt tt e
-  plan_fine request.Commit p e = rows_fine _ [] _ p tt tt e
-  plan_fine request.Rollback p e = rows_fine _ [] _ p tt tt e
+  plan_fine (request.Define ddl) p e = rows_fine _ [] _ p (inr tt) tt tt e
+  plan_fine (request.AlterQueue q on) p e = rows_fine _ [] _ p (inr tt) tt tt e
+  plan_fine request.Begin p e = rows_fine _ [] _ p (inr tt) tt tt e
+  plan_fine request.Commit p e = rows_fine _ [] _ p (inr tt) tt tt e
+  plan_fine request.Rollback p e = rows_fine _ [] _ p (inr tt) tt tt e

@@ -1,6 +1,6 @@
 -- What each plan owes its transaction: the groups that it locks are free, it concerns only sides whose group it locks, it sends on no side that ended, and it takes the first items.
 use Rattle.std.proofs.Common.{◌≡◌, ℕ, Bool, true, false, List, [], ◌∷◌, ◌++◌, ◌+◌, ◌*◌, ◌/◌, ◌%◌, ◌^◌, ◌≤◌, ◌<◌, Option, Some, None, Result, Ok, Err, refl, sym, ◌∙◌, ap, subst, length, arith, cond, inl, inr, append-nil, map}
-use Rattle.std.specs.Prelude.{filter, flat_map, not, IsTrue, ◌==◌, ◌&&◌, ◌||◌, nat_lt, option_map}
+use Rattle.std.specs.Prelude.{filter, flat_map, not, IsTrue, ◌==◌, ◌&&◌, ◌||◌, nat_lt, nat_le, is_some, option_map}
 use Rattle.std.specs.Option.{option_eq, option_map_or}
 use Rattle.std.specs.List.{list_any, AllByRecursion}
 use Rattle.std.proofs.lemmas.Bool.{eq-eqb}
@@ -31,11 +31,15 @@ use Rattle.sb_model.specs.Instance.{low_half}
 use Rattle.sb_model.specs.Refusals.{need, refuse_if, unless_refused}
 use Rattle.sb_model.specs.Replies.{took}
 use Rattle.sb_model.specs.Links.{EndsForGood, SilentAfter, sends_on}
+use Rattle.sb_model.specs.Logs.{is_op_allowed, is_item}
+use Rattle.sb_model.specs.Catalog.{find_queue}
+use Rattle.sb_laws.proofs.Allowed.{AllowedIn, AllowedTake, ops_from_view, both_true, has_handle}
 use Rattle.sb_laws.proofs.Sides.{sides_same, ids_same, both_right}
 use Rattle.sb_laws.proofs.Grow.{all_weaker, shuts, ended_join, or_true_left, or_false}
 use Rattle.sb_laws.proofs.Taking.{InOrder, Rising, Picks, IsOwn, IsBySide, KeepsOrder, of, has, numbers, is_mine, own_numbers, picks_side, in_order_picked, all_filter, all_first_items, all_in_order}
 use Rattle.sb_laws.proofs.Views.{items_view, touches}
-use Rattle.sb_laws.proofs.Opens.{LogOk, AreWithin, Holds, IsNewBegin, PlanOk}
+use Rattle.sb_model.specs.Sides.{Making}
+use Rattle.sb_laws.proofs.Opens.{IsCounted, LogOk, AreWithin, Holds, IsNewBegin, PlanOk}
 
 clash : {P : Type 0} → true ≡ false → P
 clash e = cc
@@ -101,6 +105,21 @@ drawn_low x n h =
     add_none : (k : ℕ) → k + 0 ≡ k
     add_none k = omega arith
 
+-- a handle that is drawn is that of no side which is counted
+pub drawn_new : (x : Who) (n : ℕ) → n < 2 ^ 64 → (ms : List Making) → AllByRecursion (IsCounted x n) ms → list_any (has_handle (id ((instance_id x).0 + (n + 0) % 2 ^ 64))) ms ≡ false
+drawn_new x n lt [] h = refl
+drawn_new x n lt (m ∷ ms) h = or_false (same_id m.handle (id ((instance_id x).0 + (n + 0) % 2 ^ 64))) (list_any (has_handle (id ((instance_id x).0 + (n + 0) % 2 ^ 64))) ms)
+    (by_test (same_id m.handle (id ((instance_id x).0 + (n + 0) % 2 ^ 64))) refl) (drawn_new x n lt ms h.1)
+  where
+    not_below : (j k : ℕ) → j ≡ k → j < k → ⊥
+    not_below j k e less = absurd (omega (arith, e, less))
+
+    by_test : (b : Bool) → same_id m.handle (id ((instance_id x).0 + (n + 0) % 2 ^ 64)) ≡ b → same_id m.handle (id ((instance_id x).0 + (n + 0) % 2 ^ 64)) ≡ false
+    by_test false e = e
+    by_test true e =
+        let same : m.handle ≡ id ((instance_id x).0 + (n + 0) % 2 ^ 64) = ids_same m.handle (id ((instance_id x).0 + (n + 0) % 2 ^ 64)) e in
+        absurd (not_below (low_half ((instance_id x).0 + (n + 0) % 2 ^ 64)) n (drawn_low x n lt) (subst (λ z. low_half z.0 < n) same (h.0.1 (subst (λ z. IsTrue (is_home x z)) (sym same) (drawn_home x n lt)))))
+
 -- ---- items
 
 pub items_rising : (n : ℕ) (log : List Entry) → Rising n (items_from n log)
@@ -112,6 +131,10 @@ items_rising n (Defined a ∷ log) = items_rising n log
 items_rising n (Txn a b ∷ log) = items_rising n log
 items_rising n (Acked a b c ∷ log) = items_rising n log
 items_rising n (QueueSet a b ∷ log) = items_rising n log
+
+rising_least : (low : ℕ) (xs : List Item) → Rising low xs → AllByRecursion (λ i. low ≤ i.number) xs
+rising_least low [] h = tt
+rising_least low (x ∷ xs) h = (h.0, all_weaker (λ i. x.number + 1 ≤ i.number) (λ i. low ≤ i.number) (λ i le. let k = h.0 in omega (arith, le, k)) xs (rising_least (x.number + 1) xs h.1))
 
 items_below : (n top : ℕ) (log : List Entry) → n + length (items_from n log) ≤ top + 1 → AllByRecursion (λ i. i.number ≤ top) (items_from n log)
 items_below n top [] h = tt
@@ -133,6 +156,7 @@ pub record PlanFacts (x : Who) (seen_log : List Entry) (opens : List OpenTransac
   pub ended : EndsForGood (ops_of seen_log ++ ops)
   pub in_order : InOrder (items seen_log) (taken seen_log ++ flat_map taken_by ops)
   pub within : AreWithin (items seen_log) (flat_map taken_by ops)
+  pub allowed : AllowedIn seen_log ops
 
 pub plan_from_facts : (x : Who) (log seen_log : List Entry) (opens : List OpenTransaction) (next high tx : ℕ) (before ops : List Op) (groups : List Handle) →
     seen_log ≡ with_ops log tx before → PlanFacts x seen_log opens next high tx ops groups → PlanOk x log opens next high tx before ops groups
@@ -149,6 +173,7 @@ plan_from_facts x log seen_log opens next high tx before ops groups e facts = go
       ended = f.ended;
       in_order = subst (λ its. InOrder its (taken (with_ops log tx before) ++ flat_map taken_by ops)) same f.in_order;
       within = subst (λ its. AreWithin its (flat_map taken_by ops)) same f.within;
+      allowed = ops_from_view log tx before ops f.allowed;
     }
 
 module _ (x : Who) (V : List Entry) (U : List OpenTransaction) (next high tx : ℕ) (ok : LogOk x V) (few : high ≤ next + 2) where
@@ -177,8 +202,8 @@ module _ (x : Who) (V : List Entry) (U : List OpenTransaction) (next high tx : �
   )
 
   -- operations on rows, or none
-  pub plain_facts : (ops : List Op) (groups : List Handle) → AllByRecursion IsPlain ops → EndsForGood ops → AllByRecursion (λ g. is_free U g tx ≡ true) groups → Facts ops groups
-  plain_facts ops groups h ends free = record {
+  pub plain_facts : (ops : List Op) (groups : List Handle) → AllowedIn V ops → AllByRecursion IsPlain ops → EndsForGood ops → AllByRecursion (λ g. is_free U g tx ≡ true) groups → Facts ops groups
+  plain_facts ops groups allowed h ends free = record {
     few = few;
     free = free;
     held = λ s e. clash (sym e ∙ plain_touch s ops h);
@@ -186,12 +211,13 @@ module _ (x : Who) (V : List Entry) (U : List OpenTransaction) (next high tx : �
     ended = ended_join (ops_of V) ops ok.sound.ended ends (λ s e. plain_send s ops h);
     in_order = (not_taking ops (plain_take ops h)).0;
     within = (not_taking ops (plain_take ops h)).1;
+    allowed = allowed;
   }
 
   -- one operation on a side whose group is locked
-  pub side_facts : (op : Op) (s : SideId) (g : Handle) (groups : List Handle) → ((t : SideId) → touches (items V) t op ≡ true → s ≡ t) → group_of V s ≡ Some g → list_any (same_id g) groups ≡ true →
+  pub side_facts : (op : Op) (s : SideId) (g : Handle) (groups : List Handle) → is_op_allowed V op ≡ true → ((t : SideId) → touches (items V) t op ≡ true → s ≡ t) → group_of V s ≡ Some g → list_any (same_id g) groups ≡ true →
       AllByRecursion (λ k. is_free U k tx ≡ true) groups → ((t : SideId) → sends_on t op ≡ true → list_any (shuts t) (ops_of V) ≡ false) → SilentAfter op [] → taken_by op ≡ [] → IsNewBegin x next high op → Facts (op ∷ []) groups
-  side_facts op s g groups only at held free silent last none new = record {
+  side_facts op s g groups allowed only at held free silent last none new = record {
     few = few;
     free = free;
     held = λ t e. inr (g, ap (group_of V) (sym (only t (first_or (touches (items V) t op) e))) ∙ at, held);
@@ -199,6 +225,7 @@ module _ (x : Who) (V : List Entry) (U : List OpenTransaction) (next high tx : �
     ended = ended_join (ops_of V) (op ∷ []) ok.sound.ended (last, tt) (λ t e. or_false (sends_on t op) false (quiet t e (sends_on t op) refl) refl);
     in_order = (not_taking (op ∷ []) (ap (λ l. l ++ []) none)).0;
     within = (not_taking (op ∷ []) (ap (λ l. l ++ []) none)).1;
+    allowed = inl (op, refl, allowed);
   }
     where
       first_or : (b : Bool) → (b || false) ≡ true → b ≡ true
@@ -210,8 +237,8 @@ module _ (x : Who) (V : List Entry) (U : List OpenTransaction) (next high tx : �
       quiet t e true f = clash (sym e ∙ silent t f)
 
   -- a new dialog
-  pub begin_facts : (handle g : Handle) (header : Header) → IsNewBegin x next high (Begin handle g header) → is_free U g tx ≡ true → Facts (Begin handle g header ∷ []) (g ∷ [])
-  begin_facts handle g header new free = record {
+  pub begin_facts : (handle g : Handle) (header : Header) → is_op_allowed V (Begin handle g header) ≡ true → IsNewBegin x next high (Begin handle g header) → is_free U g tx ≡ true → Facts (Begin handle g header ∷ []) (g ∷ [])
+  begin_facts handle g header allowed new free = record {
     few = few;
     free = (free, tt);
     held = λ s e. inl e;
@@ -219,6 +246,7 @@ module _ (x : Who) (V : List Entry) (U : List OpenTransaction) (next high tx : �
     ended = ended_join (ops_of V) (Begin handle g header ∷ []) ok.sound.ended (tt, tt) (λ s e. refl);
     in_order = (not_taking (Begin handle g header ∷ []) refl).0;
     within = (not_taking (Begin handle g header ∷ []) refl).1;
+    allowed = inl (Begin handle g header, refl, allowed);
   }
 
   -- ---- a pick
@@ -244,9 +272,9 @@ module _ (x : Who) (V : List Entry) (U : List OpenTransaction) (next high tx : �
   all_map_number P (p ∷ ps) h = (h.0, all_map_number P ps h.1)
 
   -- items that are the log's own, of one group
-  pick_facts : (q : Bytes) (g : Handle) (ps : List Item) → is_free U g tx ≡ true → AllByRecursion (IsOwn (items V)) ps → AllByRecursion (λ i. i.number ≤ length (items V)) ps →
+  pick_facts : (q : Bytes) (g : Handle) (ps : List Item) → is_some (find_queue V q) ≡ true → AllByRecursion (λ i. 1 ≤ i.number) ps → is_free U g tx ≡ true → AllByRecursion (IsOwn (items V)) ps → AllByRecursion (λ i. i.number ≤ length (items V)) ps →
       AllByRecursion (λ i. group_of V i.side ≡ Some g) ps → Picks (items V) (taken V) ps → Facts (map (took q) ps) (g ∷ [])
-  pick_facts q g ps free own below grouped picks = record {
+  pick_facts q g ps named first free own below grouped picks = record {
     few = few;
     free = (free, tt);
     held = λ s e. inr (g, in_group s ps own grouped e, or_true_left (same_id g g) false (id_same g));
@@ -255,10 +283,18 @@ module _ (x : Who) (V : List Entry) (U : List OpenTransaction) (next high tx : �
     in_order = subst (λ l. InOrder (items V) (taken V ++ l)) (sym (takes_are q ps))
         (in_order_picked 1 (items V) (taken V) ps (items_rising 1 V) own picks ok.in_order);
     within = subst (AreWithin (items V)) (sym (takes_are q ps)) (all_map_number (λ n. n ≤ length (items V)) ps below);
+    allowed = inr (takes ps first below);
   }
     where
       id_same : (k : Handle) → same_id k k ≡ true
       id_same k = eq-eqb k.0 k.0 refl
+
+      is_most : (j k : ℕ) → j ≤ k → nat_le j k ≡ true
+      is_most j k le = grind (arith, nat_tests)
+
+      takes : (zs : List Item) → AllByRecursion (λ i. 1 ≤ i.number) zs → AllByRecursion (λ i. i.number ≤ length (items V)) zs → AllByRecursion (AllowedTake V) (map (took q) zs)
+      takes [] a b = tt
+      takes (z ∷ zs) a b = (both_true (is_some (find_queue V q)) (is_item V z.number) named (both_true (nat_le 1 z.number) (nat_le z.number (length (items V))) (is_most 1 z.number a.0) (is_most z.number (length (items V)) b.0)), takes zs a.1 b.1)
 
       in_group : (s : SideId) (zs : List Item) → AllByRecursion (IsOwn (items V)) zs → AllByRecursion (λ i. group_of V i.side ≡ Some g) zs → list_any (touches (items V) s) (map (took q) zs) ≡ true → group_of V s ≡ Some g
       in_group s [] a b e = clash (sym e)
@@ -369,9 +405,10 @@ module _ (x : Who) (V : List Entry) (U : List OpenTransaction) (next high tx : �
       (all_filter P (in_group_of g) (in_order (item_before V) (cands q f)) (all_in_order P (item_before V) (cands q f)
       (all_filter P (λ i. passes V f i && is_free_item V U tx i) (waiting V q) (all_filter P (waits_in V q) (items V) h))))
 
-  picked_facts : (q : Bytes) (f : Filter) (n : Option ℕ) (g : Handle) → is_free U g tx ≡ true →
+  picked_facts : (q : Bytes) (f : Filter) (n : Option ℕ) (g : Handle) → is_some (find_queue V q) ≡ true → is_free U g tx ≡ true →
       Facts (map (took q) (first_items n (filter (in_group_of g) (in_order (item_before V) (cands q f))))) (g ∷ [])
-  picked_facts q f n g free = pick_facts q g (first_items n (filter (in_group_of g) (in_order (item_before V) (cands q f)))) free
+  picked_facts q f n g named free = pick_facts q g (first_items n (filter (in_group_of g) (in_order (item_before V) (cands q f)))) named
+      (through (λ i. 1 ≤ i.number) q f n g (rising_least 1 (items V) (items_rising 1 V))) free
       (through (IsOwn (items V)) q f n g (own_numbers 1 (items V) (items_rising 1 V)))
       (through (λ i. i.number ≤ length (items V)) q f n g (items_below 1 (length (items V)) V (omega arith)))
       (all_first_items (λ i. group_of V i.side ≡ Some g) n (filter (in_group_of g) (in_order (item_before V) (cands q f)))
@@ -407,10 +444,10 @@ module _ (x : Who) (V : List Entry) (U : List OpenTransaction) (next high tx : �
             items_are = sym (ap (λ k. k.items) got.2) ∙ ap (λ k. first_items n (filter (in_group_of k) (z ∷ zs))) same ∙ ap (λ l. first_items n (filter (in_group_of p.group) l)) (sym g);
           }
 
-  pub received_facts : (q : Bytes) (n : Option ℕ) (f : Filter) (p : Pick) → pick_in V U tx q n f ≡ Some p → Facts (map (took q) p.items) (p.group ∷ [])
-  received_facts q n f p e =
+  pub received_facts : (q : Bytes) (n : Option ℕ) (f : Filter) (p : Pick) → is_some (find_queue V q) ≡ true → pick_in V U tx q n f ≡ Some p → Facts (map (took q) p.items) (p.group ∷ [])
+  received_facts q n f p named e =
       let is = pick_is q n f p e in
-      subst (λ l. Facts (map (took q) l) (p.group ∷ [])) (sym is.items_are) (picked_facts q f n p.group is.free)
+      subst (λ l. Facts (map (took q) l) (p.group ∷ [])) (sym is.items_are) (picked_facts q f n p.group named is.free)
 
   pub group_facts : (q : Bytes) (n : Option ℕ) (f : Filter) (p : Pick) → pick_in V U tx q n f ≡ Some p → Facts [] (p.group ∷ [])
-  group_facts q n f p e = plain_facts [] (p.group ∷ []) tt tt ((pick_is q n f p e).free, tt)
+  group_facts q n f p e = plain_facts [] (p.group ∷ []) (inr tt) tt tt ((pick_is q n f p e).free, tt)

@@ -27,6 +27,8 @@ use Rattle.sb_laws.proofs.Growth.{items_from-append, taken-append}
 use Rattle.sb_laws.proofs.Grow.{all_weaker, all_append}
 use Rattle.sb_laws.proofs.Views.{items_view}
 use Rattle.sb_laws.proofs.Delivered.{receives_in_order}
+use Rattle.sb_model.specs.Links.{DeliversInTurn}
+use Rattle.sb_laws.proofs.InTurn.{delivers_in_turn}
 use Rattle.sb_laws.proofs.Opens.{LogOk, AreWithin}
 use Rattle.sb_laws.proofs.Parts.{PartOk}
 use Rattle.sb_laws.proofs.Worlds.{WorldOk, AreBelow, opened_low, opened_ok}
@@ -87,7 +89,7 @@ within_more log (e ∷ es) f h = subst (λ l. AreWithin (items l) (taken l)) (ap
     (within_entry log e (both_left (is_allowed log e) (are_allowed_after (log ++ e ∷ []) es) f) h))
 
 log_starts : (x : Who) (log : List Entry) → IsSound x log → TakenInOrder log → WellFormed log → LogOk x log
-log_starts x log sound order formed = record { sound = sound; in_order = order; within = within_more [] log formed tt }
+log_starts x log sound order formed = record { formed = formed; sound = sound; in_order = order; within = within_more [] log formed tt }
 
 -- ---- the first state
 
@@ -148,6 +150,16 @@ survivors_linked w h a b sa sb =
     let kb = survives_is w.b.log w.b.doubt b sb in
     subst (λ l. Linked (both l b) w.wire) ka.1 (subst (λ l. Linked (both (survivor w.a ka.0) l) w.wire) kb.1 (h.linked ka.0 kb.0))
 
+-- and well formed
+pub survivors_formed : (w : World) → WorldOk w → (x : Who) (l : List Entry) → Survives (at_most w x) (kept w x) l → WellFormed l
+survivors_formed w h x l s = let k = survives_is (part w x).log (part w x).doubt l s in subst WellFormed k.1 ((h.each x).logs k.0).formed
+
+pub formed_after : (log_a log_b : List Entry) (end_a end_b : Option ℕ) (steps : List Step) → StartsLinked log_a log_b → length steps ≤ 2 ^ 60 →
+    Legal (first_world log_a end_a log_b end_b) steps → StaysFresh (first_world log_a end_a log_b end_b) steps → (x : Who) (l : List Entry) →
+    Survives (at_most (after (first_world log_a end_a log_b end_b) steps) x) (kept (after (first_world log_a end_a log_b end_b) steps) x) l → WellFormed l
+formed_after log_a log_b end_a end_b steps h short legal fresh =
+    survivors_formed (after (first_world log_a end_a log_b end_b) steps) (kept_along log_a log_b end_a end_b h steps short legal fresh)
+
 pub linked_after : (log_a log_b : List Entry) (end_a end_b : Option ℕ) (steps : List Step) → StartsLinked log_a log_b → length steps ≤ 2 ^ 60 →
     Legal (first_world log_a end_a log_b end_b) steps → StaysFresh (first_world log_a end_a log_b end_b) steps → StaysLinked (after (first_world log_a end_a log_b end_b) steps)
 linked_after log_a log_b end_a end_b steps h short legal fresh =
@@ -159,6 +171,17 @@ pub delivered_after : (log_a log_b : List Entry) (end_a end_b : Option ℕ) (ste
     Survives (at_most (after (first_world log_a end_a log_b end_b) steps) B) (kept (after (first_world log_a end_a log_b end_b) steps) B) b → DeliversInOrder (both a b)
 delivered_after log_a log_b end_a end_b steps h short legal fresh a b sa sb =
     receives_in_order (both a b) (after (first_world log_a end_a log_b end_b) steps).wire (linked_after log_a log_b end_a end_b steps h short legal fresh a b sa sb)
+
+pub in_turn_after : (log_a log_b : List Entry) (end_a end_b : Option ℕ) (steps : List Step) → StartsLinked log_a log_b → length steps ≤ 2 ^ 60 →
+    Legal (first_world log_a end_a log_b end_b) steps → StaysFresh (first_world log_a end_a log_b end_b) steps → (a b : List Entry) →
+    Survives (at_most (after (first_world log_a end_a log_b end_b) steps) A) (kept (after (first_world log_a end_a log_b end_b) steps) A) a →
+    Survives (at_most (after (first_world log_a end_a log_b end_b) steps) B) (kept (after (first_world log_a end_a log_b end_b) steps) B) b → DeliversInTurn (both a b)
+in_turn_after log_a log_b end_a end_b steps h short legal fresh a b sa sb =
+    delivers_in_turn (both a b) (after (first_world log_a end_a log_b end_b) steps).wire (linked_after log_a log_b end_a end_b steps h short legal fresh a b sa sb) formed
+  where
+    formed : (x : Who) → WellFormed (both a b x)
+    formed A = formed_after log_a log_b end_a end_b steps h short legal fresh A a sa
+    formed B = formed_after log_a log_b end_a end_b steps h short legal fresh B b sb
 
 -- ---- a log that is made by hand
 

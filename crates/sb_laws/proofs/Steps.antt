@@ -1,6 +1,6 @@
 -- What sessions, readers, starts, timers and deliveries make of an instance.
 use Rattle.std.proofs.Common.{◌≡◌, ℕ, Bool, true, false, List, [], ◌∷◌, ◌++◌, ◌+◌, ◌^◌, ◌%◌, ◌≤◌, ◌<◌, Option, Some, None, Ok, Err, refl, sym, ◌∙◌, ap, subst, arith, cond, inl, map}
-use Rattle.std.specs.Prelude.{flat_map, find, ⊤, ◌==◌, ◌&&◌, option_map, option_and_then, is_none}
+use Rattle.std.specs.Prelude.{filter, flat_map, find, ⊤, ◌==◌, ◌&&◌, option_map, option_and_then, is_none, is_some}
 use Rattle.std.specs.Option.{option_eq, option_map_or}
 use Rattle.std.specs.Bool.{beq}
 use Rattle.std.specs.List.{list_any, AllByRecursion}
@@ -29,15 +29,24 @@ use Rattle.sb_model.specs.Transactions as open_as
 use Rattle.sb_model.specs.Instance.{Part, Luck, Done, append, refused, has_name, queue_taken}
 use Rattle.sb_model.specs.Rollbacks.{without_open, end_owner, rolled_back, roll_back_with, has_room, off_entries, off_entry, off_names}
 use Rattle.sb_model.specs.Replies.{Plan, Planned, plan, seen}
-use Rattle.sb_model.specs.Statements.{txn_entries, add_plan, after_plan, ask, draws, commit_counts, fresh_open, commit, drew_tx, at_once, in_open, planned_step, define, alter_queue, begin, commit_asked, rollback_asked, session_open, session_request, session_step, refused_reader, set_wait, wait_or_deadlock, reader_refused, reader_planned, commit_refusal, reader_commit, reader_request, reader_open, runnable, reader_step, start_pick, started_on, start_step, may_start_on}
+use Rattle.sb_model.specs.Statements.{txn_entries, add_plan, after_plan, ask, draws, commit_counts, fresh_open, commit, drew_tx, at_once, in_open, in_transaction, planned_step, define, alter_queue, begin, commit_asked, rollback_asked, session_open, session_request, session_step, refused_reader, set_wait, wait_or_deadlock, reader_refused, reader_planned, commit_refusal, reader_commit, reader_request, reader_open, runnable, reader_step, start_pick, started_on, start_step, may_start_on}
+use Rattle.sb_model.specs.Sides.{makings, made_by_op}
+use Rattle.sb_model.specs.Catalog.{find_queue}
+use Rattle.sb_model.specs.Logs.{are_allowed_after, is_ddl_allowed}
+use Rattle.sb_model.specs.Definitions.{define_refusal}
+use Rattle.sb_model.specs.Refusals.{or_else}
+use Rattle.sb_model.specs.Rollbacks.{queues_of, disables}
+use Rattle.sb_laws.proofs.Allowed.{both_true}
+use Rattle.sb_laws.proofs.Defines.{defined_allowed, offs_allowed, offs_make_none, queues_named, IsNamed}
+use Rattle.sb_laws.proofs.Taking.{all_filter}
 use Rattle.sb_laws.proofs.Grow.{all_weaker, all_append}
 use Rattle.sb_laws.proofs.Sides.{ids_same, both_right}
-use Rattle.sb_laws.proofs.Views.{txn_is_view}
+use Rattle.sb_laws.proofs.Views.{txn_is_view, makings_view}
 use Rattle.sb_laws.proofs.Opens.{LogOk, OpenOk, Apart, IsOpenOk, AreApart, LiveOk, IsCounted, PlanOk, log_committed, open_later, open_new, open_planned, apart_planned}
 use Rattle.sb_laws.proofs.Plans.{plan_from_facts, low_is, pick_is}
 use Rattle.sb_laws.proofs.PlanCases.{plan_fine, all_found, IsFine}
 use Rattle.sb_laws.specs.Worlds.{HasRoom}
-use Rattle.sb_laws.proofs.Parts.{Few, few_same, few_tx, few_drawn, few_wider, few_at_once, append_few, PartOk, Moved, SameLog, IsQuiet, log_ok, moved_not, moved_live, moved_append, moved_quiet, live_without, live_commit, live_planned, live_committed, log_txn, find_again, find_above, all_map, pairs_map, pairs_push, free_beside, all_with}
+use Rattle.sb_laws.proofs.Parts.{Few, few_same, few_tx, few_drawn, few_wider, few_at_once, append_few, PartOk, Moved, SameLog, IsQuiet, Brings, brings_none, counted_later, counted_ops, log_ok, moved_not, moved_live, moved_append, moved_quiet, live_without, live_commit, live_planned, live_committed, log_txn, find_again, find_above, all_map, pairs_map, pairs_push, free_beside, all_with}
 
 clash : {P : Type 0} → true ≡ false → P
 clash e = cc
@@ -83,7 +92,7 @@ module _ (p : Part) (h : PartOk p) (room : HasRoom p) (up : p.up ≡ true) where
   live_later k l le le' = record {
     each = all_weaker (IsOpenOk p.who p.log n m) (IsOpenOk p.who p.log k l) (λ b o. open_later p.who p.log n m k l b.tx b.ops b.groups le le' o) U live.each;
     pairs = live.pairs;
-    counted = all_weaker (IsCounted n) (IsCounted k) (λ c f e. let b = f e in omega (arith, b, le)) _ live.counted;
+    counted = all_weaker (IsCounted p.who n) (IsCounted p.who k) (counted_later p.who n k le) _ live.counted;
   }
 
   -- ---- an open transaction that is found
@@ -98,9 +107,13 @@ module _ (p : Part) (h : PartOk p) (room : HasRoom p) (up : p.up ≡ true) where
     view_ok : LogOk p.who (with_ops p.log o.tx o.ops)
     view_ok = log_committed p.who p.log n m o.tx o.ops o.groups (log_ok p h) open_ok
 
+    view_counted : (now : ℕ) → AllByRecursion (IsCounted p.who n) (makings (seen (ask p o.tx now)))
+    view_counted now = subst (λ l. AllByRecursion (IsCounted p.who n) (makings l)) (sym (view_is now)) (subst (AllByRecursion (IsCounted p.who n)) (sym (makings_view p.log o.tx o.ops))
+        (all_append (IsCounted p.who n) (makings p.log) (flat_map made_by_op o.ops) live.counted (counted_ops p.who n o.ops open_ok.begins_below)))
+
     pub planned_moved : (now : ℕ) (req : Request) (planned : Plan) → plan (ask p o.tx now) req ≡ Ok planned → Steps p (after_plan p o.tx planned)
     planned_moved now req planned e =
-        let facts : IsFine (ask p o.tx now) planned = plan_fine (ask p o.tx now) (subst (LogOk p.who) (sym (view_is now)) view_ok) room.handles req planned e in
+        let facts : IsFine (ask p o.tx now) planned = plan_fine (ask p o.tx now) (subst (LogOk p.who) (sym (view_is now)) view_ok) (view_counted now) room.handles req planned e in
         let ok : PlanOk p.who p.log U n (n + planned.drawn) o.tx o.ops planned.ops planned.groups =
         plan_from_facts p.who p.log (seen (ask p o.tx now)) U n (n + planned.drawn) o.tx o.ops planned.ops planned.groups (view_is now) facts in
         let fits : (n + planned.drawn) % 2 ^ 64 ≡ n + planned.drawn = low_is (n + planned.drawn) (omega (arith, facts.few, room.handles)) in
@@ -151,6 +164,12 @@ module _ (p : Part) (h : PartOk p) (room : HasRoom p) (up : p.up ≡ true) where
     when_room P true es k = k
     when_room P false es k = tt
 
+    -- turnings off of the log's own queues
+    offs_brings : (c : Bool) (V : List OpenTransaction) → Brings p.who p.log (cond c (off_entries p o) []) n V
+    offs_brings true V = brings_none p.who p.log (off_entries p o) n V (offs_quiet (filter (disables p) (queues_of p o)))
+        (offs_allowed p.log (filter (disables p) (queues_of p o)) (all_filter (IsNamed p.log) (disables p) (queues_of p o) (all_filter (IsNamed p.log) (λ def. has_name (flat_map queue_taken o.ops) def.name) (queues p.log) (queues_named p.log)))) (offs_make_none (filter (disables p) (queues_of p o)))
+    offs_brings false V = brings_none p.who p.log [] n V tt refl refl
+
     pub rolled_moved : (luck : Luck) (told : Reply → Answer) → Steps p (roll_back_with luck p o told).part
     rolled_moved luck told = record {
       entries = cond (has_room p o) (off_entries p o) [];
@@ -158,9 +177,9 @@ module _ (p : Part) (h : PartOk p) (room : HasRoom p) (up : p.up ≡ true) where
       moved = by_owner (λ r. Moved p (append luck p (cond (has_room p o) (off_entries p o) []) (told (reply.RolledBack o.tx (off_names p o))) r).part (cond (has_room p o) (off_entries p o) []))
           o.owner (rolled_back (has_room p o) p o)
           (moved_quiet luck p _ (cond (has_room p o) (off_entries p o) []) _ h up (record { who = refl; up = refl; log = refl; doubt = refl; few = few_same 2 n m })
-          (when_room IsQuiet (has_room p o) (off_entries p o) (offs_quiet _)) (live_without p.who p.log n m U o.tx live))
+          (offs_brings (has_room p o) (without_open U o.tx)) (live_without p.who p.log n m U o.tx live))
           (λ held. moved_quiet luck p _ (cond (has_room p o) (off_entries p o) []) _ h up (record { who = refl; up = refl; log = refl; doubt = refl; few = few_same 2 n m })
-          (when_room IsQuiet (has_room p o) (off_entries p o) (offs_quiet _)) (live_without p.who p.log n m U o.tx live));
+          (offs_brings (has_room p o) (without_open U o.tx)) (live_without p.who p.log n m U o.tx live));
     }
 
     in_open_moved : (now : ℕ) (req : Request) (r : Planned) → plan (ask p o.tx now) req ≡ r → Steps p (in_open p o.tx r).part
@@ -262,7 +281,7 @@ module _ (p : Part) (h : PartOk p) (room : HasRoom p) (up : p.up ≡ true) where
   at_once_moved : (luck : Luck) (now : ℕ) (req : Request) (r : Planned) → plan (ask p m now) req ≡ r → Steps p (at_once luck (drew_tx p) m r).part
   at_once_moved luck now req (Err k) e = record { entries = []; own = tt; moved = drew_moved [] }
   at_once_moved luck now req (Ok planned) e =
-      let facts : IsFine (ask p m now) planned = plan_fine (ask p m now) (subst (LogOk p.who) (sym (view_none now)) (log_ok p h)) room.handles req planned e in
+      let facts : IsFine (ask p m now) planned = plan_fine (ask p m now) (subst (LogOk p.who) (sym (view_none now)) (log_ok p h)) (subst (λ l. AllByRecursion (IsCounted p.who n) (makings l)) (sym (view_none now)) live.counted) room.handles req planned e in
       let high : ℕ = n + planned.drawn in
       let ok : PlanOk p.who p.log U n (n + planned.drawn) m [] planned.ops planned.groups =
       plan_from_facts p.who p.log (seen (ask p m now)) U n (n + planned.drawn) m [] planned.ops planned.groups (view_none now) facts in
@@ -297,21 +316,25 @@ module _ (p : Part) (h : PartOk p) (room : HasRoom p) (up : p.up ≡ true) where
 
   -- ---- one entry of its own
 
-  pub quiet_moved : (luck : Luck) (es : List Entry) (told : Answer) → AllByRecursion IsQuiet es → AllByRecursion IsOwn es → Steps p (append luck p es told p).part
-  quiet_moved luck es told quiet own = record { entries = es; own = own; moved = moved_quiet luck p p es told h up same_log quiet live }
+  pub quiet_moved : (luck : Luck) (es : List Entry) (told : Answer) → AllByRecursion IsQuiet es → are_allowed_after p.log es ≡ true → makings es ≡ [] → AllByRecursion IsOwn es → Steps p (append luck p es told p).part
+  quiet_moved luck es told quiet allowed none own = record { entries = es; own = own; moved = moved_quiet luck p p es told h up same_log (brings_none p.who p.log es n U quiet allowed none) live }
 
-  define_moved : (luck : Luck) (d : Ddl) (r : Option Refusal) → Steps p (define luck p d r).part
-  define_moved luck d None = quiet_moved luck (Defined d ∷ []) _ ((refl, tt), tt) (tt, tt)
-  define_moved luck d (Some r) = stays p h
+  define_moved : (luck : Luck) (d : Ddl) (r : Option Refusal) → (r ≡ None → define_refusal p.log d ≡ None) → Steps p (define luck p d r).part
+  define_moved luck d None e = quiet_moved luck (Defined d ∷ []) _ ((refl, tt), tt) (both_true (is_ddl_allowed p.log d) true (defined_allowed p.log d (e refl)) refl) refl (tt, tt)
+  define_moved luck d (Some r) e = stays p h
 
-  alter_moved : (luck : Luck) (q : Bytes) (on : Bool) (r : Option Refusal) (def : Option QueueDef) → Steps p (alter_queue luck p q on r def).part
-  alter_moved luck q on (Some r) def = stays p h
-  alter_moved luck q on None None = stays p h
-  alter_moved luck q on None (Some def) = by_test (beq (is_on p.log def) on)
+  rest_none : (a b : Option Refusal) → or_else a b ≡ None → b ≡ None
+  rest_none None b e = e
+  rest_none (Some r) b e = cc
+
+  alter_moved : (luck : Luck) (q : Bytes) (on : Bool) (r : Option Refusal) (def : Option QueueDef) → find_queue p.log q ≡ def → Steps p (alter_queue luck p q on r def).part
+  alter_moved luck q on (Some r) def e = stays p h
+  alter_moved luck q on None None e = stays p h
+  alter_moved luck q on None (Some def) e = by_test (beq (is_on p.log def) on)
     where
       by_test : (c : Bool) → Steps p (append luck p (cond c [] (QueueSet q on ∷ [])) (answer.Replied reply.Done) p).part
-      by_test true = quiet_moved luck [] (answer.Replied reply.Done) tt tt
-      by_test false = quiet_moved luck (QueueSet q on ∷ []) (answer.Replied reply.Done) ((refl, tt), tt) (tt, tt)
+      by_test true = quiet_moved luck [] (answer.Replied reply.Done) tt refl refl tt
+      by_test false = quiet_moved luck (QueueSet q on ∷ []) (answer.Replied reply.Done) ((refl, tt), tt) (both_true (is_some (find_queue p.log q)) true (ap is_some e) refl) refl (tt, tt)
 
   -- ---- sessions
 
@@ -328,8 +351,8 @@ module _ (p : Part) (h : PartOk p) (room : HasRoom p) (up : p.up ≡ true) where
   rollback_asked_moved luck session q (Some o) e = rolled_moved q o e luck answer.Replied
 
   pub session_moved : (luck : Luck) (session now : ℕ) (req : Request) → Steps p (session_request luck p session now req).part
-  session_moved luck session now (request.Define d) = define_moved luck d _
-  session_moved luck session now (request.AlterQueue q on) = alter_moved luck q on _ _
+  session_moved luck session now (request.Define d) = define_moved luck d _ (rest_none (in_transaction (session_open p session)) (define_refusal p.log d))
+  session_moved luck session now (request.AlterQueue q on) = alter_moved luck q on _ _ refl
   session_moved luck session now request.Begin = begin_moved session _
   session_moved luck session now request.Commit = commit_asked_moved luck session _ (session_open p session) refl
   session_moved luck session now request.Rollback = rollback_asked_moved luck session _ (session_open p session) refl

@@ -356,10 +356,10 @@ module _ (x : Who) (log : List Entry) (ok : LogOk x log) (fresh : IsTrue (is_fre
   all_most a (n ∷ ns) = (let r : max a n ≤ fold max (max a n) ns = fold_above (max a n) ns in omega (arith, r), all_most (max a n) ns)
 
   making_low : (ms : List Making) (more : List Handle) (top : ℕ) → AllByRecursion (λ n. n ≤ top) (map (own_low x) (flat_map (λ m. m.side.conversation ∷ m.handle ∷ m.group ∷ []) ms ++ more)) →
-      AllByRecursion (IsHomeMaking x) ms → AllByRecursion (IsCounted (top + 1)) ms
+      AllByRecursion (IsHomeMaking x) ms → AllByRecursion (IsCounted x (top + 1)) ms
   making_low [] more top h home = tt
   making_low (m ∷ ms) more top h home = (
-    (λ e. count m.side.conversation (home.0 e) h.0),
+    ((λ e. count m.side.conversation (home.0 e) h.0), (λ e. count m.handle e h.1.0)),
     making_low ms more top h.1.1.1 home.1,
   )
     where
@@ -385,12 +385,12 @@ module _ (x : Who) (log : List Entry) (ok : LogOk x log) (fresh : IsTrue (is_fre
       least : (k : ℕ) → k < 2 ^ 62 → (k + 1) % 2 ^ 64 ≤ 2 ^ 62
       least k lt = let e : (k + 1) % 2 ^ 64 ≡ k + 1 = low_is (k + 1) (omega (arith, lt)) in omega (arith, e, lt)
 
-  opened_counted : AllByRecursion (IsCounted (next_handle_of x log)) (makings log)
+  opened_counted : AllByRecursion (IsCounted x (next_handle_of x log)) (makings log)
   opened_counted =
       let below : fold max 0 (map (own_low x) (ids log)) < 2 ^ 62 =
       fold_below (2 ^ 62) 0 (map (own_low x) (ids log)) (omega arith) (low_below (ids log) (and_left (list_all (λ i. nat_lt (low_half i.0) (2 ^ 62)) (ids log)) _ fresh)) in
       let next : next_handle_of x log ≡ fold max 0 (map (own_low x) (ids log)) + 1 = low_is (fold max 0 (map (own_low x) (ids log)) + 1) (omega (arith, below)) in
-      subst (λ n. AllByRecursion (IsCounted n) (makings log)) (sym next)
+      subst (λ n. AllByRecursion (IsCounted x n) (makings log)) (sym next)
       (making_low (makings log) _ (fold max 0 (map (own_low x) (ids log))) (all_most 0 (map (own_low x) (ids log))) (all_home x log ok.sound.own_tags ok.sound.targets))
 
   pub opened_ok : (end : Option ℕ) → PartOk (opened x log end)

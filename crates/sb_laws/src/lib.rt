@@ -6,13 +6,15 @@
 #![tactic(auto)]
 
 ghost use Rattle.std.specs.Prelude.{◌≡◌, ℕ, ◌≤◌, ◌^◌, length, List, [], ◌∷◌, ◌++◌, Option, IsTrue};
+ghost use Rattle.sb_log.specs.declared.identifiers.Who.{Who};
 ghost use Rattle.sb_log.specs.declared.identifiers.Who.TheVariants.{A, B};
+ghost use Rattle.sb_model.specs.Logs.{WellFormed};
 ghost use Rattle.sb_log.specs.declared.entries.Entry.{Entry};
 ghost use Rattle.sb_log.specs.declared.steps.Step.{Step};
 ghost use Rattle.sb_model.specs.Steps.{World};
 ghost use Rattle.sb_model.specs.Histories.{Legal, Gives, outcome, after, first_world, at_most, kept};
 ghost use Rattle.sb_model.specs.Survival.{Survives};
-ghost use Rattle.sb_model.specs.Links.{DeliversInOrder, StaysLinked, both};
+ghost use Rattle.sb_model.specs.Links.{DeliversInOrder, DeliversInTurn, StaysLinked, both};
 ghost use Rattle.sb_laws.specs.Worlds.{StaysFresh};
 ghost use Rattle.sb_laws.specs.Starts.{StartsLinked, IsReady};
 ghost use Rattle.sb_laws.specs.Ready.{ready_log};
@@ -53,6 +55,16 @@ pub fn stays_linked()
         → StaysLinked (after (first_world log_a end_a log_b end_b) steps) }
 {}
 
+/// After a legal history from linked logs, whatever survives of a log is well formed.
+pub fn stays_well_formed()
+    ensures { (log_a log_b : List Entry) (end_a end_b : Option ℕ) (steps : List Step)
+        → StartsLinked log_a log_b → length steps ≤ 2 ^ 60
+        → Legal (first_world log_a end_a log_b end_b) steps → StaysFresh (first_world log_a end_a log_b end_b) steps
+        → (x : Who) (log : List Entry)
+        → Survives (at_most (after (first_world log_a end_a log_b end_b) steps) x) (kept (after (first_world log_a end_a log_b end_b) steps) x) log
+        → WellFormed log }
+{}
+
 /// In whatever survives of both logs after a legal history from linked ones, each side received what its partner sent, in order and each
 /// once. The initiator of a conversation whose target both instances made has no single partner and is left out.
 pub fn delivers_in_order()
@@ -63,4 +75,16 @@ pub fn delivers_in_order()
         → Survives (at_most (after (first_world log_a end_a log_b end_b) steps) A) (kept (after (first_world log_a end_a log_b end_b) steps) A) a
         → Survives (at_most (after (first_world log_a end_a log_b end_b) steps) B) (kept (after (first_world log_a end_a log_b end_b) steps) B) b
         → DeliversInOrder (both a b) }
+{}
+
+/// There too every side, also the initiator of such a conversation, receives the numbers 1, 2 and so on in turn, and each message with a
+/// number is the one that a partner gave that number.
+pub fn delivers_in_turn()
+    ensures { (log_a log_b : List Entry) (end_a end_b : Option ℕ) (steps : List Step)
+        → StartsLinked log_a log_b → length steps ≤ 2 ^ 60
+        → Legal (first_world log_a end_a log_b end_b) steps → StaysFresh (first_world log_a end_a log_b end_b) steps
+        → (a b : List Entry)
+        → Survives (at_most (after (first_world log_a end_a log_b end_b) steps) A) (kept (after (first_world log_a end_a log_b end_b) steps) A) a
+        → Survives (at_most (after (first_world log_a end_a log_b end_b) steps) B) (kept (after (first_world log_a end_a log_b end_b) steps) B) b
+        → DeliversInTurn (both a b) }
 {}
