@@ -32,7 +32,7 @@ use Rattle.sb_model.specs.Transactions.{OpenTransaction}
 use Rattle.sb_model.specs.Statements.{session_step, reader_step, start_step, runnable, refused_reader}
 use Rattle.sb_model.specs.Dump.{dump}
 use Rattle.sb_model.specs.Wire.{Wired, wired, no_longer_waits, spelled_on}
-use Rattle.sb_model.specs.Steps.{World, Stepped, part, with_part, on_part, told, deliver_wired, lose_wired, inject, pump, open_with, open_step, serve, sessions_open, is_settled, luck_of, failed, step, fire, session_words, reader_words, is_of_words, is_of_reader_words, hand_over, to_hand_over, handed, accept_data}
+use Rattle.sb_model.specs.Steps.{World, Stepped, part, with_part, on_part, told, deliver_wired, lose_wired, inject, pump, open_with, open_step, serve, sessions_open, is_settled, luck_of, failed, step, fire, session_words, reader_words, words_told, is_of_words, is_of_reader_words, hand_over, to_hand_over, handed, accept_data}
 use Rattle.sb_model.specs.Histories.{Legal, Gives, outcome, world_of, next, after}
 use Rattle.sb_model.specs.Links.{Logs, IsFrameOf}
 use Rattle.sb_laws.specs.Worlds.{IsRoomy, StaysFresh}
@@ -58,15 +58,23 @@ if_some false x r e h = none_is r e
 words_world : (w : World) (x : Who) (k : Refusal) (r : Stepped) → WorldOk w → session_words w x k ≡ Some r → Keeps w r.world
 words_world w x k r h e = if_some (is_of_words k) (on_part w x (refused (part w x) k)) r e (same_world w x h)
 
+-- what is told of words is what was done
+pub told_is : (k : Refusal) (d e : Done) → words_told k d ≡ Some e → d ≡ e
+told_is (refusal.DiskFailed x) d e f = by_up d.part.up f
+  where
+    by_up : (c : Bool) → cond c None (Some d) ≡ Some e → d ≡ e
+    by_up true g = cc
+    by_up false g = same_Some d e g
+told_is k d e f = same_Some d e f
+
 reader_world : (w : World) (luck : Luck) (x : Who) (n : ℕ) (k : Refusal) (r : Stepped) → WorldOk w → IsRoomy w → reader_words luck w x n k ≡ Some r → Keeps w r.world
 reader_world w luck x n k r h roomy e = by_words (is_of_reader_words k) e
   where
-    by_open : (o : Option OpenTransaction) → runnable (part w x) n ≡ o → option_map (λ z. on_part w x (refused_reader luck (part w x) z k)) o ≡ Some r → Keeps w r.world
+    by_open : (o : Option OpenTransaction) → runnable (part w x) n ≡ o → option_map (on_part w x) (option_and_then (λ z. words_told k (refused_reader luck (part w x) z k)) o) ≡ Some r → Keeps w r.world
     by_open None f g = none_is r g
-    by_open (Some o) f g = some_is (on_part w x (refused_reader luck (part w x) o k)) r g
-        (steps_world w x (refused_reader luck (part w x) o k).part h (refused_reader_moved (part w x) (h.each x) (roomy.room x) luck n o k f))
-
-    by_words : (c : Bool) → cond c (option_map (λ z. on_part w x (refused_reader luck (part w x) z k)) (runnable (part w x) n)) None ≡ Some r → Keeps w r.world
+    by_open (Some o) f g = done_world w x (words_told k (refused_reader luck (part w x) o k)) r h g
+        (λ d i. subst (λ z. Steps (part w x) z.part) (told_is k (refused_reader luck (part w x) o k) d i) (refused_reader_moved (part w x) (h.each x) (roomy.room x) luck n o k f))
+    by_words : (c : Bool) → cond c (option_map (on_part w x) (option_and_then (λ z. words_told k (refused_reader luck (part w x) z k)) (runnable (part w x) n))) None ≡ Some r → Keeps w r.world
     by_words true f = by_open (runnable (part w x) n) refl f
     by_words false f = none_is r f
 

@@ -41,7 +41,7 @@ use Rattle.sb_model.specs.Transactions.{OpenTransaction}
 use Rattle.sb_model.specs.Instance.{Part, Luck, Done, append, opened, down_with, end_of, refused}
 use Rattle.sb_model.specs.Statements.{session_step, refused_reader, reader_request, reader_step, runnable, start_pick, started_on, start_step, start_queue}
 use Rattle.sb_model.specs.Wire.{Wired, wired, no_longer_waits, spelled_on, put, lines_from, wire_size, sent_size}
-use Rattle.sb_model.specs.Steps.{World, Stepped, part, with_part, on_part, told, deliver_wired, arrive, accept_data, lose_wired, inject, inject_other, pump, pumped, fire, fired_entry, first_due, same_kind, open_with, open_step, serve, sessions_open, is_settled, luck_of, failed, reader_words, is_of_words, is_of_reader_words, hand_over, to_hand_over, handed, step}
+use Rattle.sb_model.specs.Steps.{World, Stepped, part, with_part, on_part, told, deliver_wired, arrive, accept_data, lose_wired, inject, inject_other, pump, pumped, fire, fired_entry, first_due, same_kind, open_with, open_step, serve, sessions_open, is_settled, luck_of, failed, reader_words, words_told, is_of_words, is_of_reader_words, hand_over, to_hand_over, handed, step}
 use Rattle.sb_model.specs.Histories.{outcome, world_of, next, first_world}
 use Rattle.sb_laws.specs.Worlds.{StaysFresh, IsFreshWorld, survivor}
 use Rattle.sb_laws.specs.Fresh.{is_under, spells_low, SpellsLow}
@@ -55,6 +55,7 @@ use Rattle.sb_log.specs.declared.requests.Relation.TheVariants as relation
 use Rattle.sb_model.specs.Instance.{low_half}
 use Rattle.sb_laws.proofs.Low.{less_is, is_less}
 use Rattle.sb_laws.proofs.Steps.{runnable_open}
+use Rattle.sb_laws.proofs.Delivery.{told_is}
 use Rattle.sb_laws.proofs.LowSteps.{PartLow, part_later, session_step_low, reader_low, refused_low, started_low, arrive_low, handed_low, fired_low}
 
 pub record WorldLow (top : ℕ) (w : World) : Type 0 where
@@ -140,12 +141,14 @@ module _ (low top : ℕ) (le : low + 4 ≤ top) (some : 1 ≤ low) (w : World) (
   reader_words_low : (luck : Luck) (x : Who) (n : ℕ) (k : Refusal) (r : Stepped) → reader_words luck w x n k ≡ Some r → WorldLow top r.world
   reader_words_low luck x n k r e = by_words (is_of_reader_words k) e
     where
-      by_open : (o : Option OpenTransaction) → runnable (part w x) n ≡ o → option_map (λ z. on_part w x (refused_reader luck (part w x) z k)) o ≡ Some r → WorldLow top r.world
+      by_told : (o : OpenTransaction) (d : Option Done) → runnable (part w x) n ≡ Some o → words_told k (refused_reader luck (part w x) o k) ≡ d → option_map (on_part w x) d ≡ Some r → WorldLow top r.world
+      by_told o None f i g = none_low r g
+      by_told o (Some d) f i g = some_low _ r g (on_low x d (subst (λ z. PartLow top z.part) (told_is k (refused_reader luck (part w x) o k) d i)
+          (refused_low low top le (part w x) (h.each x) o (all_found (OpenLow top) _ (part w x).open_txns o (later.each x).opens (runnable_open (part w x) n o f)) luck k)))
+      by_open : (o : Option OpenTransaction) → runnable (part w x) n ≡ o → option_map (on_part w x) (option_and_then (λ z. words_told k (refused_reader luck (part w x) z k)) o) ≡ Some r → WorldLow top r.world
       by_open None f g = none_low r g
-      by_open (Some o) f g = some_low _ r g (on_low x (refused_reader luck (part w x) o k)
-          (refused_low low top le (part w x) (h.each x) o (all_found (OpenLow top) _ (part w x).open_txns o (later.each x).opens (runnable_open (part w x) n o f)) luck k))
-
-      by_words : (c : Bool) → cond c (option_map (λ z. on_part w x (refused_reader luck (part w x) z k)) (runnable (part w x) n)) None ≡ Some r → WorldLow top r.world
+      by_open (Some o) f g = by_told o (words_told k (refused_reader luck (part w x) o k)) f refl g
+      by_words : (c : Bool) → cond c (option_map (on_part w x) (option_and_then (λ z. words_told k (refused_reader luck (part w x) z k)) (runnable (part w x) n))) None ≡ Some r → WorldLow top r.world
       by_words true f = by_open (runnable (part w x) n) refl f
       by_words false f = none_low r f
 

@@ -229,9 +229,16 @@ is_of_reader_words r = is_of_words r
 abbrev pub session_words : World → Who → Refusal → Option Stepped
 session_words w x r = if is_of_words r then Some (on_part w x (refused (part w x) r)) else None
 
+-- DiskFailed is told only where the write of the rollback failed, so the instance is down
+abbrev pub words_told : Refusal → Done → Option Done
+words_told (refusal.DiskFailed x) d = if d.part.up then None else Some d
+words_told r d = Some d
+
 abbrev pub reader_words : Luck → World → Who → ℕ → Refusal → Option Stepped
 reader_words luck w x n r =
-    if is_of_reader_words r then option_map (λ o. on_part w x (refused_reader luck (part w x) o r)) (runnable (part w x) n) else None
+    if is_of_reader_words r
+    then option_map (on_part w x) (option_and_then (λ o. words_told r (refused_reader luck (part w x) o r)) (runnable (part w x) n))
+    else None
 
 -- ---- the first form of the link, without frames
 
