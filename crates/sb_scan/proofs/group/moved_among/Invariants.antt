@@ -1,0 +1,8 @@
+use Rattle.std.proofs.Common.{◌≡◌, drop, ◌++◌, ◌≤◌, ◌+◌, max, map}
+use Rattle.std.specs.Prelude.{find, flat_map, filter, fold, slice_get, None, option_map}
+use Rattle.std.specs.List.{list_any, last_or}
+use Rattle.sb_model.specs.Groups.{group_moved}
+use Rattle.sb_scan.proofs.group.moved_among.Given as goal
+
+abbrev pub invariant-loop-op : goal.invariant-loop-op
+invariant-loop-op l = last_or l.last (flat_map (group_moved l.side) (drop l.op-index l.ops)) ≡ last_or l.fn.before (flat_map (group_moved l.side) l.ops)
