@@ -1,0 +1,5 @@
+pub mod Loop
+pub mod MessageLaws
+pub mod DefinitionLaws
+pub mod EntryLaws
+pub mod WholeLaws

@@ -1,0 +1,6 @@
+pub mod Spelling
+pub mod Reading
+pub mod Fields
+pub mod Values
+pub mod Gives
+pub mod Decodes
