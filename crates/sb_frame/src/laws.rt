@@ -1,0 +1,20 @@
+//! What holds of the spellings, whatever the values are.
+
+ghost use Rattle.std.specs.Prelude.{◌≡◌, ◌++◌, ℕ, List, Ok};
+ghost use Rattle.sb_log.specs.declared.messages.Frame.{Frame};
+ghost use Rattle.sb_fields.specs.Laws.{OneSpelling};
+ghost use Rattle.sb_frame.specs.Reading.{frame_at};
+ghost use Rattle.sb_frame.specs.Spelling.{frame_bytes};
+ghost use Rattle.sb_frame.specs.Values.{IsFrame};
+
+/// The spelling of a frame is no spelling of another, and none begins another one.
+pub fn frame_has_one_spelling()
+    ensures { OneSpelling frame_bytes IsFrame }
+{
+}
+
+/// A frame that was spelled is read again, whatever follows it.
+pub fn frame_is_read_again()
+    ensures { (frame : Frame) (rest : List ℕ) → IsFrame frame → frame_at (frame_bytes frame ++ rest) ≡ Ok (frame, rest) }
+{
+}
