@@ -3,3 +3,4 @@ pub mod MessageLaws
 pub mod DefinitionLaws
 pub mod EntryLaws
 pub mod WholeLaws
+pub mod PartLengths

@@ -4,3 +4,4 @@ pub mod Fields
 pub mod Values
 pub mod Gives
 pub mod Decodes
+pub mod Lengths

@@ -11,6 +11,7 @@ mod definition_writing;
 mod entry_reading;
 mod entry_writing;
 mod laws;
+mod lengths;
 mod message_reading;
 mod message_writing;
 mod refused;
@@ -18,6 +19,7 @@ mod unread;
 
 pub use coding::{decode, encode};
 pub use laws::{entry_has_one_spelling, entry_is_read_again};
+pub use lengths::encoded_len;
 pub use message_reading::{
     byte_between, eight_bytes, read_content, read_flag, read_handle, read_header, read_side,
 };
