@@ -19,8 +19,8 @@ use Rattle.sb_log.specs.declared.definitions.Ddl.TheVariants.{MessageType, Contr
 use Rattle.sb_fields.specs.Spelling.{Bytes, number, text16, bytes32, flag, optional}
 use Rattle.sb_fields.specs.Reading.{Reading, read_then, give, number_at, flag_at, optional_at, list_at}
 use Rattle.sb_fields.proofs.Readings.{ReadsOnly, ReadsAgain, ReadsExactly, then_again, give_again, again_is, then_exactly, give_only, if_only, number_read, flag_read, optional_read, list_read}
-use Rattle.sb_entry.specs.Spelling.{handle_bytes, sender_number, sent_by_bytes, activation_bytes, place_number, definition_bytes}
-use Rattle.sb_entry.specs.Reading.{name_at, message_type_at, sender_of, sent_by_at, contract_at, activation_at, queue_at, service_at, place_of, route_at, priority_at, table_at, procedure_at, definition_of, definition_at}
+use Rattle.sb_model.specs.Spelling.{handle_bytes, sender_number, sent_by_bytes, activation_bytes, place_number, definition_bytes}
+use Rattle.sb_model.specs.Reading.{name_at, message_type_at, sender_of, sent_by_at, contract_at, activation_at, queue_at, service_at, place_of, route_at, priority_at, table_at, procedure_at, definition_of, definition_at}
 use Rattle.sb_entry.specs.Values.{IsHandle, IsNameText, IsLongText, IsSentBy, IsBetween, IsActivation, IsDefinition}
 use Rattle.sb_entry.proofs.MessageLaws.{name_read, long_text_read, handle_read, Between, byte_read, Behind, at_kind}
 

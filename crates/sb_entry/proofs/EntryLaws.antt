@@ -18,8 +18,8 @@ use Rattle.sb_log.specs.declared.entries.Entry.TheVariants.{Defined, Txn, Accept
 use Rattle.sb_fields.specs.Spelling.{Bytes, number, text16, bytes32, flag, optional}
 use Rattle.sb_fields.specs.Reading.{Reading, read_then, give, such_that, number_at, flag_at, optional_at, list_at}
 use Rattle.sb_fields.proofs.Readings.{ReadsOnly, ReadsAgain, ReadsExactly, then_again, give_again, again_is, then_exactly, give_only, if_only, such_that_exactly, number_read, flag_read, optional_read, list_read}
-use Rattle.sb_entry.specs.Spelling.{handle_bytes, side_bytes, bigint_bytes, header_bytes, content_bytes, final_bytes, op_bytes, definition_bytes, made_bytes, entry_bytes}
-use Rattle.sb_entry.specs.Reading.{final_error_at, final_of, final_at, begin_at, send_at, took_at, end_at, cleanup_at, move_at, timer_at, put_at, delete_at, op_of, op_at, made_at, defined_at, count_at, txn_at, accepted_at, acked_at, fired_at, expired_at, queue_set_at, entry_of, entry_at}
+use Rattle.sb_model.specs.Spelling.{handle_bytes, side_bytes, bigint_bytes, header_bytes, content_bytes, final_bytes, op_bytes, definition_bytes, made_bytes, entry_bytes}
+use Rattle.sb_model.specs.Reading.{final_error_at, final_of, final_at, begin_at, send_at, took_at, end_at, cleanup_at, move_at, timer_at, put_at, delete_at, op_of, op_at, made_at, defined_at, count_at, txn_at, accepted_at, acked_at, fired_at, expired_at, queue_set_at, entry_of, entry_at}
 use Rattle.sb_entry.specs.Values.{IsHandle, IsSide, IsNameText, IsBytes32, IsLongText, IsHeader, IsContent, IsFinal, IsOp, IsDefinition, IsMade, IsEntry}
 use Rattle.sb_entry.proofs.MessageLaws.{in_words, text_read, bytes_read, name_read, long_text_read, handle_read, bigint_read, Between, byte_read, side_read, header_read, content_read, Behind, at_kind}
 use Rattle.sb_entry.proofs.DefinitionLaws.{ddl_read}

@@ -17,8 +17,8 @@ use Rattle.sb_fields.specs.Taking.{take_text16, take_bytes32}
 use Rattle.sb_fields.specs.Reading.{Reading, read_then, give, field, such_that, number_at, flag_at, optional_at}
 use Rattle.sb_fields.proofs.Takings.{text16_exactly, bytes32_exactly}
 use Rattle.sb_fields.proofs.Readings.{ReadsOnly, ReadsAgain, ReadsExactly, then_again, give_again, again_is, then_exactly, give_only, if_only, field_exactly, such_that_exactly, number_read, flag_read, optional_read}
-use Rattle.sb_entry.specs.Spelling.{handle_bytes, side_bytes, bigint_bytes, header_bytes, content_bytes}
-use Rattle.sb_entry.specs.Reading.{text_at, bytes_at, name_at, long_text_at, handle_at, bigint_at, byte_at, side_at, header_at, app_at, error_at, content_of, content_at}
+use Rattle.sb_model.specs.Spelling.{handle_bytes, side_bytes, bigint_bytes, header_bytes, content_bytes}
+use Rattle.sb_model.specs.Reading.{text_at, bytes_at, name_at, long_text_at, handle_at, bigint_at, byte_at, side_at, header_at, app_at, error_at, content_of, content_at}
 use Rattle.sb_entry.specs.Values.{IsHandle, IsSide, IsNameText, IsBytes32, IsLongText, IsHeader, IsContent}
 
 -- values that fit in another wording

@@ -7,8 +7,8 @@ use Rattle.sb_fields.specs.Reading.{Read, Reading, whole}
 use Rattle.sb_fields.specs.Laws.{OneSpelling}
 use Rattle.sb_fields.proofs.Numbers.{AreBytes}
 use Rattle.sb_fields.proofs.Readings.{ReadsExactly, whole_again, whole_only}
-use Rattle.sb_entry.specs.Reading.{entry_at, decode_entry}
-use Rattle.sb_entry.specs.Spelling.{entry_bytes}
+use Rattle.sb_model.specs.Reading.{entry_at, decode_entry}
+use Rattle.sb_model.specs.Spelling.{entry_bytes}
 use Rattle.sb_entry.specs.Values.{IsEntry}
 use Rattle.sb_entry.specs.Decodes.{Decodes}
 use Rattle.sb_entry.specs.declared.refused.EntryRefused.{EntryRefused}

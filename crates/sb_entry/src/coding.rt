@@ -4,8 +4,8 @@ ghost use Rattle.std.specs.Prelude.{◌≡◌, ◌-◌, length, IfOk, Ok};
 ghost use Rattle.sb_log.specs.declared.entries.Entry.{Entry};
 ghost use Rattle.sb_entry.specs.Decodes.{Decodes};
 ghost use Rattle.sb_entry.specs.Fields.{EntryFits};
-ghost use Rattle.sb_entry.specs.Reading.{decode_entry};
-ghost use Rattle.sb_entry.specs.Spelling.{entry_bytes};
+ghost use Rattle.sb_model.specs.Reading.{decode_entry};
+ghost use Rattle.sb_model.specs.Spelling.{entry_bytes};
 ghost use Rattle.sb_entry.specs.Values.{IsEntry};
 
 use crate::entry_reading::read_entry;

@@ -3,7 +3,7 @@
 ghost use Rattle.std.specs.Prelude.{◌≡◌};
 ghost use Rattle.sb_fields.specs.Reading.{optional_at, list_at};
 ghost use Rattle.sb_entry.specs.Gives.{Gives};
-ghost use Rattle.sb_entry.specs.Reading.{name_at, message_type_at, sender_of, sent_by_at, contract_at, activation_at, queue_at, service_at, place_of, route_at, priority_at, table_at, procedure_at, definition_at};
+ghost use Rattle.sb_model.specs.Reading.{name_at, message_type_at, sender_of, sent_by_at, contract_at, activation_at, queue_at, service_at, place_of, route_at, priority_at, table_at, procedure_at, definition_at};
 
 use crate::message_reading::{
     byte_between, optional_handle, read_flag, read_long_text, read_name, two_bytes,
@@ -49,7 +49,7 @@ fn optional_service(alloc: Global, bytes: &[u8]) -> Result<(Option<Text>, &[u8])
     }
 }
 
-#[tactic(auto, unfolding(sb_fields::specs::Reading::read_then, sb_fields::specs::Reading::give, crate::specs::Reading::message_type_at))]
+#[tactic(auto, unfolding(sb_fields::specs::Reading::read_then, sb_fields::specs::Reading::give, sb_model::specs::Reading::message_type_at))]
 fn message_type(alloc: Global, bytes: &[u8]) -> Result<(Ddl, &[u8]), Unread>
     ensures { Gives (λ x. (x.0, x.1.now)) result (message_type_at bytes.now) }
 {
@@ -74,7 +74,7 @@ fn sender(number: u8) -> Sender
     }
 }
 
-#[tactic(auto, unfolding(sb_fields::specs::Reading::read_then, sb_fields::specs::Reading::give, crate::specs::Reading::sent_by_at))]
+#[tactic(auto, unfolding(sb_fields::specs::Reading::read_then, sb_fields::specs::Reading::give, sb_model::specs::Reading::sent_by_at))]
 fn sent_by(alloc: Global, bytes: &[u8]) -> Result<(SentBy, &[u8]), Unread>
     ensures { Gives (λ x. (x.0, x.1.now)) result (sent_by_at bytes.now) }
 {
@@ -102,7 +102,7 @@ fn sent_bys(alloc: Global, count: u16, bytes: &[u8]) -> Result<(Vec<SentBy>, &[u
     Ok((values, rest))
 }
 
-#[tactic(auto, unfolding(sb_fields::specs::Reading::read_then, sb_fields::specs::Reading::give, crate::specs::Reading::contract_at))]
+#[tactic(auto, unfolding(sb_fields::specs::Reading::read_then, sb_fields::specs::Reading::give, sb_model::specs::Reading::contract_at))]
 fn contract(alloc: Global, bytes: &[u8]) -> Result<(Ddl, &[u8]), Unread>
     ensures { Gives (λ x. (x.0, x.1.now)) result (contract_at bytes.now) }
 {
@@ -118,7 +118,7 @@ fn contract(alloc: Global, bytes: &[u8]) -> Result<(Ddl, &[u8]), Unread>
     ))
 }
 
-#[tactic(auto, unfolding(sb_fields::specs::Reading::read_then, sb_fields::specs::Reading::give, crate::specs::Reading::activation_at))]
+#[tactic(auto, unfolding(sb_fields::specs::Reading::read_then, sb_fields::specs::Reading::give, sb_model::specs::Reading::activation_at))]
 fn activation(alloc: Global, bytes: &[u8]) -> Result<(Activation, &[u8]), Unread>
     ensures { Gives (λ x. (x.0, x.1.now)) result (activation_at bytes.now) }
 {
@@ -148,7 +148,7 @@ fn optional_activation(alloc: Global, bytes: &[u8]) -> Result<(Option<Activation
     }
 }
 
-#[tactic(auto, unfolding(sb_fields::specs::Reading::read_then, sb_fields::specs::Reading::give, crate::specs::Reading::queue_at))]
+#[tactic(auto, unfolding(sb_fields::specs::Reading::read_then, sb_fields::specs::Reading::give, sb_model::specs::Reading::queue_at))]
 fn queue(alloc: Global, bytes: &[u8]) -> Result<(Ddl, &[u8]), Unread>
     ensures { Gives (λ x. (x.0, x.1.now)) result (queue_at bytes.now) }
 {
@@ -180,7 +180,7 @@ fn names(alloc: Global, count: u16, bytes: &[u8]) -> Result<(Vec<Name>, &[u8]), 
     Ok((values, rest))
 }
 
-#[tactic(auto, unfolding(sb_fields::specs::Reading::read_then, sb_fields::specs::Reading::give, crate::specs::Reading::service_at))]
+#[tactic(auto, unfolding(sb_fields::specs::Reading::read_then, sb_fields::specs::Reading::give, sb_model::specs::Reading::service_at))]
 fn service(alloc: Global, bytes: &[u8]) -> Result<(Ddl, &[u8]), Unread>
     ensures { Gives (λ x. (x.0, x.1.now)) result (service_at bytes.now) }
 {
@@ -208,7 +208,7 @@ fn place(number: u8) -> Option<Who>
     }
 }
 
-#[tactic(auto, unfolding(sb_fields::specs::Reading::read_then, sb_fields::specs::Reading::give, crate::specs::Reading::route_at))]
+#[tactic(auto, unfolding(sb_fields::specs::Reading::read_then, sb_fields::specs::Reading::give, sb_model::specs::Reading::route_at))]
 fn route(alloc: Global, bytes: &[u8]) -> Result<(Ddl, &[u8]), Unread>
     ensures { Gives (λ x. (x.0, x.1.now)) result (route_at bytes.now) }
 {
@@ -227,7 +227,7 @@ fn route(alloc: Global, bytes: &[u8]) -> Result<(Ddl, &[u8]), Unread>
     ))
 }
 
-#[tactic(auto, unfolding(sb_fields::specs::Reading::read_then, sb_fields::specs::Reading::give, crate::specs::Reading::priority_at))]
+#[tactic(auto, unfolding(sb_fields::specs::Reading::read_then, sb_fields::specs::Reading::give, sb_model::specs::Reading::priority_at))]
 fn priority(alloc: Global, bytes: &[u8]) -> Result<(Ddl, &[u8]), Unread>
     ensures { Gives (λ x. (x.0, x.1.now)) result (priority_at bytes.now) }
 {
@@ -248,7 +248,7 @@ fn priority(alloc: Global, bytes: &[u8]) -> Result<(Ddl, &[u8]), Unread>
     ))
 }
 
-#[tactic(auto, unfolding(sb_fields::specs::Reading::read_then, sb_fields::specs::Reading::give, crate::specs::Reading::table_at))]
+#[tactic(auto, unfolding(sb_fields::specs::Reading::read_then, sb_fields::specs::Reading::give, sb_model::specs::Reading::table_at))]
 fn table(alloc: Global, bytes: &[u8]) -> Result<(Ddl, &[u8]), Unread>
     ensures { Gives (λ x. (x.0, x.1.now)) result (table_at bytes.now) }
 {
@@ -256,7 +256,7 @@ fn table(alloc: Global, bytes: &[u8]) -> Result<(Ddl, &[u8]), Unread>
     Ok((Ddl::Table(TableDef { name }), rest))
 }
 
-#[tactic(auto, unfolding(sb_fields::specs::Reading::read_then, sb_fields::specs::Reading::give, crate::specs::Reading::procedure_at))]
+#[tactic(auto, unfolding(sb_fields::specs::Reading::read_then, sb_fields::specs::Reading::give, sb_model::specs::Reading::procedure_at))]
 fn procedure(alloc: Global, bytes: &[u8]) -> Result<(Ddl, &[u8]), Unread>
     ensures { Gives (λ x. (x.0, x.1.now)) result (procedure_at bytes.now) }
 {
@@ -266,7 +266,7 @@ fn procedure(alloc: Global, bytes: &[u8]) -> Result<(Ddl, &[u8]), Unread>
 }
 
 /// Reads a definition.
-#[tactic(auto, unfolding(sb_fields::specs::Reading::read_then, sb_fields::specs::Reading::give, crate::specs::Reading::definition_at))]
+#[tactic(auto, unfolding(sb_fields::specs::Reading::read_then, sb_fields::specs::Reading::give, sb_model::specs::Reading::definition_at))]
 pub(crate) fn read_definition(alloc: Global, bytes: &[u8]) -> Result<(Ddl, &[u8]), Unread>
     ensures { Gives (λ x. (x.0, x.1.now)) result (definition_at bytes.now) }
 {

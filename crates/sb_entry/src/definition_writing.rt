@@ -4,7 +4,7 @@ ghost use Rattle.std.specs.Prelude.{◌≡◌, ◌++◌, ◌<◌, ◌^◌, lengt
 ghost use Rattle.std.specs.List.{flat_map};
 ghost use Rattle.sb_fields.specs.Spelling.{flag, text16, optional};
 ghost use Rattle.sb_entry.specs.Fields.{IsNameField, ActivationFits, DefinitionFits};
-ghost use Rattle.sb_entry.specs.Spelling.{sender_number, sent_by_bytes, activation_bytes, place_number, definition_bytes};
+ghost use Rattle.sb_model.specs.Spelling.{sender_number, sent_by_bytes, activation_bytes, place_number, definition_bytes};
 
 use crate::message_writing::{put_flag, put_name, put_optional_handle};
 use sb_fields::{put_bytes32, put_text16, put_u8, put_u16};
@@ -52,7 +52,7 @@ fn number_of_sender(sender: Sender) -> u8
     }
 }
 
-#[tactic(auto, unfolding(crate::specs::Spelling::sent_by_bytes))]
+#[tactic(auto, unfolding(sb_model::specs::Spelling::sent_by_bytes))]
 fn put_sent_by(out: &mut Vec<u8>, sent: &SentBy) -> Result<(), AllocError>
     requires { IsNameField sent.now.kind }
     ensures { OnOk result (out.new.items ≡ out.old.items ++ sent_by_bytes sent.now) }
@@ -81,7 +81,7 @@ fn put_names(out: &mut Vec<u8>, names: &[Name]) -> Result<(), AllocError>
     Ok(())
 }
 
-#[tactic(auto, unfolding(crate::specs::Spelling::activation_bytes))]
+#[tactic(auto, unfolding(sb_model::specs::Spelling::activation_bytes))]
 fn put_activation(out: &mut Vec<u8>, activation: &Activation) -> Result<(), AllocError>
     requires { ActivationFits activation.now }
     ensures { OnOk result (out.new.items ≡ out.old.items ++ activation_bytes activation.now) }
@@ -118,7 +118,7 @@ fn number_of_place(place: Option<Who>) -> u8
     }
 }
 
-#[tactic(auto, unfolding(crate::specs::Spelling::definition_bytes))]
+#[tactic(auto, unfolding(sb_model::specs::Spelling::definition_bytes))]
 fn put_contract(out: &mut Vec<u8>, contract: &ContractDef) -> Result<(), AllocError>
     requires { DefinitionFits (Ddl.Contract contract.now) }
     ensures { OnOk result (out.new.items ≡ out.old.items ++ definition_bytes (Ddl.Contract contract.now)) }
@@ -129,7 +129,7 @@ fn put_contract(out: &mut Vec<u8>, contract: &ContractDef) -> Result<(), AllocEr
     put_sent_bys(out, contract.types.as_slice())
 }
 
-#[tactic(auto, unfolding(crate::specs::Spelling::definition_bytes))]
+#[tactic(auto, unfolding(sb_model::specs::Spelling::definition_bytes))]
 fn put_queue(out: &mut Vec<u8>, queue: &QueueDef) -> Result<(), AllocError>
     requires { DefinitionFits (Ddl.Queue queue.now) }
     ensures { OnOk result (out.new.items ≡ out.old.items ++ definition_bytes (Ddl.Queue queue.now)) }
@@ -141,7 +141,7 @@ fn put_queue(out: &mut Vec<u8>, queue: &QueueDef) -> Result<(), AllocError>
     put_optional_activation(out, &queue.activation)
 }
 
-#[tactic(auto, unfolding(crate::specs::Spelling::definition_bytes))]
+#[tactic(auto, unfolding(sb_model::specs::Spelling::definition_bytes))]
 fn put_service(out: &mut Vec<u8>, service: &ServiceDef) -> Result<(), AllocError>
     requires { DefinitionFits (Ddl.Service service.now) }
     ensures { OnOk result (out.new.items ≡ out.old.items ++ definition_bytes (Ddl.Service service.now)) }
@@ -153,7 +153,7 @@ fn put_service(out: &mut Vec<u8>, service: &ServiceDef) -> Result<(), AllocError
     put_names(out, service.contracts.as_slice())
 }
 
-#[tactic(auto, unfolding(crate::specs::Spelling::definition_bytes))]
+#[tactic(auto, unfolding(sb_model::specs::Spelling::definition_bytes))]
 fn put_route(out: &mut Vec<u8>, route: &RouteDef) -> Result<(), AllocError>
     requires { DefinitionFits (Ddl.Route route.now) }
     ensures { OnOk result (out.new.items ≡ out.old.items ++ definition_bytes (Ddl.Route route.now)) }
@@ -165,7 +165,7 @@ fn put_route(out: &mut Vec<u8>, route: &RouteDef) -> Result<(), AllocError>
     put_u8(out, number_of_place(route.to))
 }
 
-#[tactic(auto, unfolding(crate::specs::Spelling::definition_bytes))]
+#[tactic(auto, unfolding(sb_model::specs::Spelling::definition_bytes))]
 fn put_priority(out: &mut Vec<u8>, priority: &PriorityDef) -> Result<(), AllocError>
     requires { DefinitionFits (Ddl.Priority priority.now) }
     ensures { OnOk result (out.new.items ≡ out.old.items ++ definition_bytes (Ddl.Priority priority.now)) }
@@ -179,7 +179,7 @@ fn put_priority(out: &mut Vec<u8>, priority: &PriorityDef) -> Result<(), AllocEr
 }
 
 /// Appends a definition.
-#[tactic(auto, unfolding(crate::specs::Spelling::definition_bytes))]
+#[tactic(auto, unfolding(sb_model::specs::Spelling::definition_bytes))]
 pub(crate) fn put_definition(out: &mut Vec<u8>, ddl: &Ddl) -> Result<(), AllocError>
     requires { DefinitionFits ddl.now }
     ensures { OnOk result (out.new.items ≡ out.old.items ++ definition_bytes ddl.now) }

@@ -3,7 +3,7 @@
 ghost use Rattle.std.specs.Prelude.{◌≡◌};
 ghost use Rattle.sb_fields.specs.Reading.{optional_at, list_at};
 ghost use Rattle.sb_entry.specs.Gives.{Gives};
-ghost use Rattle.sb_entry.specs.Reading.{bigint_at, long_text_at, final_error_at, final_at, begin_at, send_at, took_at, end_at, cleanup_at, move_at, timer_at, put_at, delete_at, op_at, made_at, defined_at, count_at, txn_at, accepted_at, acked_at, fired_at, expired_at, queue_set_at, entry_at};
+ghost use Rattle.sb_model.specs.Reading.{bigint_at, long_text_at, final_error_at, final_at, begin_at, send_at, took_at, end_at, cleanup_at, move_at, timer_at, put_at, delete_at, op_at, made_at, defined_at, count_at, txn_at, accepted_at, acked_at, fired_at, expired_at, queue_set_at, entry_at};
 
 use crate::definition_reading::read_definition;
 use crate::message_reading::{
@@ -40,7 +40,7 @@ fn optional_long_text(alloc: Global, bytes: &[u8]) -> Result<(Option<Text>, &[u8
     }
 }
 
-#[tactic(auto, unfolding(sb_fields::specs::Reading::read_then, sb_fields::specs::Reading::give, crate::specs::Reading::final_error_at))]
+#[tactic(auto, unfolding(sb_fields::specs::Reading::read_then, sb_fields::specs::Reading::give, sb_model::specs::Reading::final_error_at))]
 fn final_error(alloc: Global, bytes: &[u8]) -> Result<(Final, &[u8]), Unread>
     ensures { Gives (λ x. (x.0, x.1.now)) result (final_error_at bytes.now) }
 {
@@ -50,7 +50,7 @@ fn final_error(alloc: Global, bytes: &[u8]) -> Result<(Final, &[u8]), Unread>
 }
 
 /// Reads the last message of a side.
-#[tactic(auto, unfolding(sb_fields::specs::Reading::read_then, sb_fields::specs::Reading::give, crate::specs::Reading::final_at))]
+#[tactic(auto, unfolding(sb_fields::specs::Reading::read_then, sb_fields::specs::Reading::give, sb_model::specs::Reading::final_at))]
 fn read_final(alloc: Global, bytes: &[u8]) -> Result<(Final, &[u8]), Unread>
     ensures { Gives (λ x. (x.0, x.1.now)) result (final_at bytes.now) }
 {
@@ -62,7 +62,7 @@ fn read_final(alloc: Global, bytes: &[u8]) -> Result<(Final, &[u8]), Unread>
     }
 }
 
-#[tactic(auto, unfolding(sb_fields::specs::Reading::read_then, sb_fields::specs::Reading::give, crate::specs::Reading::begin_at))]
+#[tactic(auto, unfolding(sb_fields::specs::Reading::read_then, sb_fields::specs::Reading::give, sb_model::specs::Reading::begin_at))]
 fn begin(alloc: Global, bytes: &[u8]) -> Result<(Op, &[u8]), Unread>
     ensures { Gives (λ x. (x.0, x.1.now)) result (begin_at bytes.now) }
 {
@@ -79,7 +79,7 @@ fn begin(alloc: Global, bytes: &[u8]) -> Result<(Op, &[u8]), Unread>
     ))
 }
 
-#[tactic(auto, unfolding(sb_fields::specs::Reading::read_then, sb_fields::specs::Reading::give, crate::specs::Reading::send_at))]
+#[tactic(auto, unfolding(sb_fields::specs::Reading::read_then, sb_fields::specs::Reading::give, sb_model::specs::Reading::send_at))]
 fn send(alloc: Global, bytes: &[u8]) -> Result<(Op, &[u8]), Unread>
     ensures { Gives (λ x. (x.0, x.1.now)) result (send_at bytes.now) }
 {
@@ -89,7 +89,7 @@ fn send(alloc: Global, bytes: &[u8]) -> Result<(Op, &[u8]), Unread>
     Ok((Op::Send { side, kind, body }, rest))
 }
 
-#[tactic(auto, unfolding(sb_fields::specs::Reading::read_then, sb_fields::specs::Reading::give, crate::specs::Reading::took_at))]
+#[tactic(auto, unfolding(sb_fields::specs::Reading::read_then, sb_fields::specs::Reading::give, sb_model::specs::Reading::took_at))]
 fn took(alloc: Global, bytes: &[u8]) -> Result<(Op, &[u8]), Unread>
     ensures { Gives (λ x. (x.0, x.1.now)) result (took_at bytes.now) }
 {
@@ -98,7 +98,7 @@ fn took(alloc: Global, bytes: &[u8]) -> Result<(Op, &[u8]), Unread>
     Ok((Op::Took { queue, item }, rest))
 }
 
-#[tactic(auto, unfolding(sb_fields::specs::Reading::read_then, sb_fields::specs::Reading::give, crate::specs::Reading::end_at))]
+#[tactic(auto, unfolding(sb_fields::specs::Reading::read_then, sb_fields::specs::Reading::give, sb_model::specs::Reading::end_at))]
 fn end(alloc: Global, bytes: &[u8]) -> Result<(Op, &[u8]), Unread>
     ensures { Gives (λ x. (x.0, x.1.now)) result (end_at bytes.now) }
 {
@@ -107,7 +107,7 @@ fn end(alloc: Global, bytes: &[u8]) -> Result<(Op, &[u8]), Unread>
     Ok((Op::End { side, last }, rest))
 }
 
-#[tactic(auto, unfolding(sb_fields::specs::Reading::read_then, sb_fields::specs::Reading::give, crate::specs::Reading::cleanup_at))]
+#[tactic(auto, unfolding(sb_fields::specs::Reading::read_then, sb_fields::specs::Reading::give, sb_model::specs::Reading::cleanup_at))]
 fn cleanup(bytes: &[u8]) -> Result<(Op, &[u8]), Unread>
     ensures { Gives (λ x. (x.0, x.1.now)) result (cleanup_at bytes.now) }
 {
@@ -115,7 +115,7 @@ fn cleanup(bytes: &[u8]) -> Result<(Op, &[u8]), Unread>
     Ok((Op::Cleanup { side }, rest))
 }
 
-#[tactic(auto, unfolding(sb_fields::specs::Reading::read_then, sb_fields::specs::Reading::give, crate::specs::Reading::move_at))]
+#[tactic(auto, unfolding(sb_fields::specs::Reading::read_then, sb_fields::specs::Reading::give, sb_model::specs::Reading::move_at))]
 fn move_to(bytes: &[u8]) -> Result<(Op, &[u8]), Unread>
     ensures { Gives (λ x. (x.0, x.1.now)) result (move_at bytes.now) }
 {
@@ -124,7 +124,7 @@ fn move_to(bytes: &[u8]) -> Result<(Op, &[u8]), Unread>
     Ok((Op::Move { side, group }, rest))
 }
 
-#[tactic(auto, unfolding(sb_fields::specs::Reading::read_then, sb_fields::specs::Reading::give, crate::specs::Reading::timer_at))]
+#[tactic(auto, unfolding(sb_fields::specs::Reading::read_then, sb_fields::specs::Reading::give, sb_model::specs::Reading::timer_at))]
 fn timer(bytes: &[u8]) -> Result<(Op, &[u8]), Unread>
     ensures { Gives (λ x. (x.0, x.1.now)) result (timer_at bytes.now) }
 {
@@ -133,7 +133,7 @@ fn timer(bytes: &[u8]) -> Result<(Op, &[u8]), Unread>
     Ok((Op::Timer { side, at }, rest))
 }
 
-#[tactic(auto, unfolding(sb_fields::specs::Reading::read_then, sb_fields::specs::Reading::give, crate::specs::Reading::put_at))]
+#[tactic(auto, unfolding(sb_fields::specs::Reading::read_then, sb_fields::specs::Reading::give, sb_model::specs::Reading::put_at))]
 fn put(alloc: Global, bytes: &[u8]) -> Result<(Op, &[u8]), Unread>
     ensures { Gives (λ x. (x.0, x.1.now)) result (put_at bytes.now) }
 {
@@ -152,7 +152,7 @@ fn put(alloc: Global, bytes: &[u8]) -> Result<(Op, &[u8]), Unread>
     ))
 }
 
-#[tactic(auto, unfolding(sb_fields::specs::Reading::read_then, sb_fields::specs::Reading::give, crate::specs::Reading::delete_at))]
+#[tactic(auto, unfolding(sb_fields::specs::Reading::read_then, sb_fields::specs::Reading::give, sb_model::specs::Reading::delete_at))]
 fn delete(alloc: Global, bytes: &[u8]) -> Result<(Op, &[u8]), Unread>
     ensures { Gives (λ x. (x.0, x.1.now)) result (delete_at bytes.now) }
 {
@@ -162,7 +162,7 @@ fn delete(alloc: Global, bytes: &[u8]) -> Result<(Op, &[u8]), Unread>
 }
 
 /// Reads an operation.
-#[tactic(auto, unfolding(sb_fields::specs::Reading::read_then, sb_fields::specs::Reading::give, crate::specs::Reading::op_at))]
+#[tactic(auto, unfolding(sb_fields::specs::Reading::read_then, sb_fields::specs::Reading::give, sb_model::specs::Reading::op_at))]
 fn read_op(alloc: Global, bytes: &[u8]) -> Result<(Op, &[u8]), Unread>
     ensures { Gives (λ x. (x.0, x.1.now)) result (op_at bytes.now) }
 {
@@ -193,7 +193,7 @@ fn read_ops(alloc: Global, count: u32, bytes: &[u8]) -> Result<(Vec<Op>, &[u8]),
     Ok((values, rest))
 }
 
-#[tactic(auto, unfolding(sb_fields::specs::Reading::such_that, crate::specs::Reading::count_at))]
+#[tactic(auto, unfolding(sb_fields::specs::Reading::such_that, sb_model::specs::Reading::count_at))]
 fn read_count(bytes: &[u8]) -> Result<(u32, &[u8]), Unread>
     ensures { Gives (λ x. (x.0, x.1.now)) result (count_at bytes.now) }
 {
@@ -205,7 +205,7 @@ fn read_count(bytes: &[u8]) -> Result<(u32, &[u8]), Unread>
     }
 }
 
-#[tactic(auto, unfolding(sb_fields::specs::Reading::read_then, sb_fields::specs::Reading::give, crate::specs::Reading::made_at))]
+#[tactic(auto, unfolding(sb_fields::specs::Reading::read_then, sb_fields::specs::Reading::give, sb_model::specs::Reading::made_at))]
 fn made(alloc: Global, bytes: &[u8]) -> Result<(NewSide, &[u8]), Unread>
     ensures { Gives (λ x. (x.0, x.1.now)) result (made_at bytes.now) }
 {
@@ -235,7 +235,7 @@ fn optional_made(alloc: Global, bytes: &[u8]) -> Result<(Option<NewSide>, &[u8])
     }
 }
 
-#[tactic(auto, unfolding(sb_fields::specs::Reading::read_then, sb_fields::specs::Reading::give, crate::specs::Reading::defined_at))]
+#[tactic(auto, unfolding(sb_fields::specs::Reading::read_then, sb_fields::specs::Reading::give, sb_model::specs::Reading::defined_at))]
 fn defined(alloc: Global, bytes: &[u8]) -> Result<(Entry, &[u8]), Unread>
     ensures { Gives (λ x. (x.0, x.1.now)) result (defined_at bytes.now) }
 {
@@ -243,7 +243,7 @@ fn defined(alloc: Global, bytes: &[u8]) -> Result<(Entry, &[u8]), Unread>
     Ok((Entry::Defined(ddl), rest))
 }
 
-#[tactic(auto, unfolding(sb_fields::specs::Reading::read_then, sb_fields::specs::Reading::give, crate::specs::Reading::txn_at))]
+#[tactic(auto, unfolding(sb_fields::specs::Reading::read_then, sb_fields::specs::Reading::give, sb_model::specs::Reading::txn_at))]
 fn txn(alloc: Global, bytes: &[u8]) -> Result<(Entry, &[u8]), Unread>
     ensures { Gives (λ x. (x.0, x.1.now)) result (txn_at bytes.now) }
 {
@@ -259,7 +259,7 @@ fn txn(alloc: Global, bytes: &[u8]) -> Result<(Entry, &[u8]), Unread>
     ))
 }
 
-#[tactic(auto, unfolding(sb_fields::specs::Reading::read_then, sb_fields::specs::Reading::give, crate::specs::Reading::accepted_at))]
+#[tactic(auto, unfolding(sb_fields::specs::Reading::read_then, sb_fields::specs::Reading::give, sb_model::specs::Reading::accepted_at))]
 fn accepted(alloc: Global, bytes: &[u8]) -> Result<(Entry, &[u8]), Unread>
     ensures { Gives (λ x. (x.0, x.1.now)) result (accepted_at bytes.now) }
 {
@@ -278,7 +278,7 @@ fn accepted(alloc: Global, bytes: &[u8]) -> Result<(Entry, &[u8]), Unread>
     ))
 }
 
-#[tactic(auto, unfolding(sb_fields::specs::Reading::read_then, sb_fields::specs::Reading::give, crate::specs::Reading::acked_at))]
+#[tactic(auto, unfolding(sb_fields::specs::Reading::read_then, sb_fields::specs::Reading::give, sb_model::specs::Reading::acked_at))]
 fn acked(bytes: &[u8]) -> Result<(Entry, &[u8]), Unread>
     ensures { Gives (λ x. (x.0, x.1.now)) result (acked_at bytes.now) }
 {
@@ -288,7 +288,7 @@ fn acked(bytes: &[u8]) -> Result<(Entry, &[u8]), Unread>
     Ok((Entry::Acked { side, upto, closed }, rest))
 }
 
-#[tactic(auto, unfolding(sb_fields::specs::Reading::read_then, sb_fields::specs::Reading::give, crate::specs::Reading::fired_at))]
+#[tactic(auto, unfolding(sb_fields::specs::Reading::read_then, sb_fields::specs::Reading::give, sb_model::specs::Reading::fired_at))]
 fn fired(bytes: &[u8]) -> Result<(Entry, &[u8]), Unread>
     ensures { Gives (λ x. (x.0, x.1.now)) result (fired_at bytes.now) }
 {
@@ -296,7 +296,7 @@ fn fired(bytes: &[u8]) -> Result<(Entry, &[u8]), Unread>
     Ok((Entry::Fired { side }, rest))
 }
 
-#[tactic(auto, unfolding(sb_fields::specs::Reading::read_then, sb_fields::specs::Reading::give, crate::specs::Reading::expired_at))]
+#[tactic(auto, unfolding(sb_fields::specs::Reading::read_then, sb_fields::specs::Reading::give, sb_model::specs::Reading::expired_at))]
 fn expired(bytes: &[u8]) -> Result<(Entry, &[u8]), Unread>
     ensures { Gives (λ x. (x.0, x.1.now)) result (expired_at bytes.now) }
 {
@@ -304,7 +304,7 @@ fn expired(bytes: &[u8]) -> Result<(Entry, &[u8]), Unread>
     Ok((Entry::Expired { side }, rest))
 }
 
-#[tactic(auto, unfolding(sb_fields::specs::Reading::read_then, sb_fields::specs::Reading::give, crate::specs::Reading::queue_set_at))]
+#[tactic(auto, unfolding(sb_fields::specs::Reading::read_then, sb_fields::specs::Reading::give, sb_model::specs::Reading::queue_set_at))]
 fn queue_set(alloc: Global, bytes: &[u8]) -> Result<(Entry, &[u8]), Unread>
     ensures { Gives (λ x. (x.0, x.1.now)) result (queue_set_at bytes.now) }
 {
@@ -314,7 +314,7 @@ fn queue_set(alloc: Global, bytes: &[u8]) -> Result<(Entry, &[u8]), Unread>
 }
 
 /// Reads an entry.
-#[tactic(auto, unfolding(sb_fields::specs::Reading::read_then, sb_fields::specs::Reading::give, crate::specs::Reading::entry_at))]
+#[tactic(auto, unfolding(sb_fields::specs::Reading::read_then, sb_fields::specs::Reading::give, sb_model::specs::Reading::entry_at))]
 pub(crate) fn read_entry(alloc: Global, bytes: &[u8]) -> Result<(Entry, &[u8]), Unread>
     ensures { Gives (λ x. (x.0, x.1.now)) result (entry_at bytes.now) }
 {

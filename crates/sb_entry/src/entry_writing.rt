@@ -4,7 +4,7 @@ ghost use Rattle.std.specs.Prelude.{◌≡◌, ◌++◌, ◌<◌, ◌^◌, lengt
 ghost use Rattle.std.specs.List.{flat_map};
 ghost use Rattle.sb_fields.specs.Spelling.{bytes32, optional};
 ghost use Rattle.sb_entry.specs.Fields.{HeaderFits, BodyFits, FinalFits, OpFits, EntryFits};
-ghost use Rattle.sb_entry.specs.Spelling.{bigint_bytes, final_bytes, op_bytes, made_bytes, entry_bytes};
+ghost use Rattle.sb_model.specs.Spelling.{bigint_bytes, final_bytes, op_bytes, made_bytes, entry_bytes};
 
 use crate::definition_writing::put_definition;
 use crate::message_writing::{
@@ -15,7 +15,7 @@ use sb_log::{Entry, Final, NewSide, Op, Text};
 use std::alloc::AllocError;
 
 /// Appends a BIGINT.
-#[tactic(auto, unfolding(crate::specs::Spelling::bigint_bytes))]
+#[tactic(auto, unfolding(sb_model::specs::Spelling::bigint_bytes))]
 fn put_bigint(out: &mut Vec<u8>, n: i64) -> Result<(), AllocError>
     ensures { OnOk result (out.new.items ≡ out.old.items ++ bigint_bytes n) }
 {
@@ -50,7 +50,7 @@ fn put_optional_text(out: &mut Vec<u8>, text: &Option<Text>) -> Result<(), Alloc
 }
 
 /// Appends the last message of a side.
-#[tactic(auto, unfolding(crate::specs::Spelling::final_bytes))]
+#[tactic(auto, unfolding(sb_model::specs::Spelling::final_bytes))]
 fn put_final(out: &mut Vec<u8>, last: &Final) -> Result<(), AllocError>
     requires { FinalFits last.now }
     ensures { OnOk result (out.new.items ≡ out.old.items ++ final_bytes last.now) }
@@ -67,7 +67,7 @@ fn put_final(out: &mut Vec<u8>, last: &Final) -> Result<(), AllocError>
 }
 
 /// Appends an operation.
-#[tactic(auto, unfolding(crate::specs::Spelling::op_bytes))]
+#[tactic(auto, unfolding(sb_model::specs::Spelling::op_bytes))]
 fn put_op(out: &mut Vec<u8>, op: &Op) -> Result<(), AllocError>
     requires { OpFits op.now }
     ensures { OnOk result (out.new.items ≡ out.old.items ++ op_bytes op.now) }
@@ -143,7 +143,7 @@ fn put_ops(out: &mut Vec<u8>, ops: &[Op]) -> Result<(), AllocError>
     Ok(())
 }
 
-#[tactic(auto, unfolding(crate::specs::Spelling::made_bytes))]
+#[tactic(auto, unfolding(sb_model::specs::Spelling::made_bytes))]
 fn put_made(out: &mut Vec<u8>, made: &NewSide) -> Result<(), AllocError>
     requires { HeaderFits made.now.header }
     ensures { OnOk result (out.new.items ≡ out.old.items ++ made_bytes made.now) }
@@ -168,7 +168,7 @@ fn put_optional_made(out: &mut Vec<u8>, made: &Option<NewSide>) -> Result<(), Al
 }
 
 /// Appends an entry.
-#[tactic(auto, unfolding(crate::specs::Spelling::entry_bytes))]
+#[tactic(auto, unfolding(sb_model::specs::Spelling::entry_bytes))]
 pub(crate) fn put_entry(out: &mut Vec<u8>, entry: &Entry) -> Result<(), AllocError>
     requires { EntryFits entry.now }
     ensures { OnOk result (out.new.items ≡ out.old.items ++ entry_bytes entry.now) }

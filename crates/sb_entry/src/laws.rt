@@ -3,8 +3,8 @@
 ghost use Rattle.std.specs.Prelude.{◌≡◌, ◌++◌, ℕ, List, Ok};
 ghost use Rattle.sb_log.specs.declared.entries.Entry.{Entry};
 ghost use Rattle.sb_fields.specs.Laws.{OneSpelling};
-ghost use Rattle.sb_entry.specs.Reading.{entry_at};
-ghost use Rattle.sb_entry.specs.Spelling.{entry_bytes};
+ghost use Rattle.sb_model.specs.Reading.{entry_at};
+ghost use Rattle.sb_model.specs.Spelling.{entry_bytes};
 ghost use Rattle.sb_entry.specs.Values.{IsEntry};
 
 /// The spelling of an entry is no spelling of another, and none begins another one.

@@ -5,7 +5,7 @@ ghost use Rattle.std.specs.Prelude.{◌≡◌, length, sum};
 ghost use Rattle.std.specs.List.{flat_map};
 ghost use Rattle.sb_fields.specs.Spelling.{bytes32, text16, optional};
 ghost use Rattle.sb_entry.specs.Lengths.{capped};
-ghost use Rattle.sb_entry.specs.Spelling.{handle_bytes, bigint_bytes, header_bytes, content_bytes, final_bytes, op_bytes, sent_by_bytes, activation_bytes, definition_bytes, made_bytes, entry_bytes};
+ghost use Rattle.sb_model.specs.Spelling.{handle_bytes, bigint_bytes, header_bytes, content_bytes, final_bytes, op_bytes, sent_by_bytes, activation_bytes, definition_bytes, made_bytes, entry_bytes};
 
 use sb_log::{
     Activation, Body, Content, Ddl, Entry, Final, Handle, Header, Name, NewSide, Op, SentBy, Text,
@@ -47,7 +47,7 @@ fn name_len(name: &Name) -> u64
     name.as_str().len() as u64
 }
 
-#[tactic(auto, using(crate::proofs::PartLengths::lengths), unfolding(sb_fields::specs::Spelling::optional, crate::specs::Spelling::handle_bytes))]
+#[tactic(auto, using(crate::proofs::PartLengths::lengths), unfolding(sb_fields::specs::Spelling::optional, sb_model::specs::Spelling::handle_bytes))]
 fn optional_handle_len(handle: Option<Handle>) -> u64
     ensures { result ≡ capped (length (optional handle_bytes handle)) }
 {
@@ -97,7 +97,7 @@ fn optional_body_len(body: &Option<Body>) -> u64
     }
 }
 
-#[tactic(auto, using(crate::proofs::PartLengths::lengths), unfolding(sb_fields::specs::Spelling::optional, crate::specs::Spelling::bigint_bytes))]
+#[tactic(auto, using(crate::proofs::PartLengths::lengths), unfolding(sb_fields::specs::Spelling::optional, sb_model::specs::Spelling::bigint_bytes))]
 fn optional_bigint_len(n: Option<i64>) -> u64
     ensures { result ≡ capped (length (optional bigint_bytes n)) }
 {
@@ -107,7 +107,7 @@ fn optional_bigint_len(n: Option<i64>) -> u64
     }
 }
 
-#[tactic(auto, using(crate::proofs::PartLengths::lengths), unfolding(crate::specs::Spelling::header_bytes, crate::specs::Spelling::handle_bytes, sb_fields::specs::Spelling::text16))]
+#[tactic(auto, using(crate::proofs::PartLengths::lengths), unfolding(sb_model::specs::Spelling::header_bytes, sb_model::specs::Spelling::handle_bytes, sb_fields::specs::Spelling::text16))]
 fn header_len(header: &Header) -> u64
     ensures { result ≡ capped (length (header_bytes header.now)) }
 {
@@ -124,7 +124,7 @@ fn header_len(header: &Header) -> u64
     ])
 }
 
-#[tactic(auto, using(crate::proofs::PartLengths::lengths), unfolding(crate::specs::Spelling::content_bytes, sb_fields::specs::Spelling::text16))]
+#[tactic(auto, using(crate::proofs::PartLengths::lengths), unfolding(sb_model::specs::Spelling::content_bytes, sb_fields::specs::Spelling::text16))]
 fn content_len(content: &Content) -> u64
     ensures { result ≡ capped (length (content_bytes content.now)) }
 {
@@ -137,7 +137,7 @@ fn content_len(content: &Content) -> u64
     }
 }
 
-#[tactic(auto, using(crate::proofs::PartLengths::lengths), unfolding(crate::specs::Spelling::final_bytes, sb_fields::specs::Spelling::text16))]
+#[tactic(auto, using(crate::proofs::PartLengths::lengths), unfolding(sb_model::specs::Spelling::final_bytes, sb_fields::specs::Spelling::text16))]
 fn final_len(last: &Final) -> u64
     ensures { result ≡ capped (length (final_bytes last.now)) }
 {
@@ -147,7 +147,7 @@ fn final_len(last: &Final) -> u64
     }
 }
 
-#[tactic(auto, using(crate::proofs::PartLengths::lengths), unfolding(crate::specs::Spelling::op_bytes, crate::specs::Spelling::handle_bytes, crate::specs::Spelling::side_bytes, crate::specs::Spelling::bigint_bytes, sb_fields::specs::Spelling::text16))]
+#[tactic(auto, using(crate::proofs::PartLengths::lengths), unfolding(sb_model::specs::Spelling::op_bytes, sb_model::specs::Spelling::handle_bytes, sb_model::specs::Spelling::side_bytes, sb_model::specs::Spelling::bigint_bytes, sb_fields::specs::Spelling::text16))]
 fn op_len(op: &Op) -> u64
     ensures { result ≡ capped (length (op_bytes op.now)) }
 {
@@ -194,7 +194,7 @@ fn ops_len(ops: &[Op]) -> u64
     total
 }
 
-#[tactic(auto, using(crate::proofs::PartLengths::lengths), unfolding(crate::specs::Spelling::sent_by_bytes, sb_fields::specs::Spelling::text16))]
+#[tactic(auto, using(crate::proofs::PartLengths::lengths), unfolding(sb_model::specs::Spelling::sent_by_bytes, sb_fields::specs::Spelling::text16))]
 fn sent_by_len(sent: &SentBy) -> u64
     ensures { result ≡ capped (length (sent_by_bytes sent.now)) }
 {
@@ -228,7 +228,7 @@ fn names_len(names: &[Name]) -> u64
     total
 }
 
-#[tactic(auto, using(crate::proofs::PartLengths::lengths), unfolding(sb_fields::specs::Spelling::optional, crate::specs::Spelling::activation_bytes, sb_fields::specs::Spelling::text16))]
+#[tactic(auto, using(crate::proofs::PartLengths::lengths), unfolding(sb_fields::specs::Spelling::optional, sb_model::specs::Spelling::activation_bytes, sb_fields::specs::Spelling::text16))]
 fn optional_activation_len(activation: &Option<Activation>) -> u64
     ensures { result ≡ capped (length (optional activation_bytes activation.now)) }
 {
@@ -238,7 +238,7 @@ fn optional_activation_len(activation: &Option<Activation>) -> u64
     }
 }
 
-#[tactic(auto, using(crate::proofs::PartLengths::lengths), unfolding(crate::specs::Spelling::definition_bytes, sb_fields::specs::Spelling::text16, sb_fields::specs::Spelling::bytes32))]
+#[tactic(auto, using(crate::proofs::PartLengths::lengths), unfolding(sb_model::specs::Spelling::definition_bytes, sb_fields::specs::Spelling::text16, sb_fields::specs::Spelling::bytes32))]
 fn definition_len(ddl: &Ddl) -> u64
     ensures { result ≡ capped (length (definition_bytes ddl.now)) }
 {
@@ -296,7 +296,7 @@ fn definition_len(ddl: &Ddl) -> u64
     }
 }
 
-#[tactic(auto, using(crate::proofs::PartLengths::lengths), unfolding(sb_fields::specs::Spelling::optional, crate::specs::Spelling::made_bytes, crate::specs::Spelling::handle_bytes))]
+#[tactic(auto, using(crate::proofs::PartLengths::lengths), unfolding(sb_fields::specs::Spelling::optional, sb_model::specs::Spelling::made_bytes, sb_model::specs::Spelling::handle_bytes))]
 fn optional_made_len(made: &Option<NewSide>) -> u64
     ensures { result ≡ capped (length (optional made_bytes made.now)) }
 {
@@ -307,7 +307,7 @@ fn optional_made_len(made: &Option<NewSide>) -> u64
 }
 
 /// How many bytes the spelling of the entry has, or the greatest `u64` where that is passed.
-#[tactic(auto, using(crate::proofs::PartLengths::lengths), unfolding(crate::specs::Spelling::entry_bytes, crate::specs::Spelling::side_bytes, crate::specs::Spelling::handle_bytes, sb_fields::specs::Spelling::text16))]
+#[tactic(auto, using(crate::proofs::PartLengths::lengths), unfolding(sb_model::specs::Spelling::entry_bytes, sb_model::specs::Spelling::side_bytes, sb_model::specs::Spelling::handle_bytes, sb_fields::specs::Spelling::text16))]
 pub fn encoded_len(entry: &Entry) -> u64
     ensures { result ≡ capped (length (entry_bytes entry.now)) }
 {

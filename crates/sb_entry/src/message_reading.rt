@@ -4,7 +4,7 @@ ghost use Rattle.std.specs.Prelude.{◌≡◌, IfSome, IfNone, true, false};
 ghost use Rattle.std.specs.Str.{is_utf8};
 ghost use Rattle.sb_fields.specs.Reading.{number_at, flag_at, optional_at};
 ghost use Rattle.sb_entry.specs.Gives.{Gives};
-ghost use Rattle.sb_entry.specs.Reading.{text_at, long_text_at, bytes_at, name_at, handle_at, bigint_at, byte_at, side_at, header_at, app_at, error_at, content_at};
+ghost use Rattle.sb_model.specs.Reading.{text_at, long_text_at, bytes_at, name_at, handle_at, bigint_at, byte_at, side_at, header_at, app_at, error_at, content_at};
 
 use crate::unread::Unread;
 use sb_fields::{take_bytes32, take_text16, take_u8, take_u16, take_u32, take_u64, take_u128};
@@ -19,7 +19,7 @@ pub(crate) fn byte(bytes: &[u8]) -> Result<(u8, &[u8]), Unread>
     take_u8(bytes).ok_or(Unread::Field { left: bytes.len() })
 }
 
-#[tactic(auto, unfolding(sb_fields::specs::Reading::such_that, crate::specs::Reading::byte_at))]
+#[tactic(auto, unfolding(sb_fields::specs::Reading::such_that, sb_model::specs::Reading::byte_at))]
 pub fn byte_between(bytes: &[u8], least: u8, most: u8) -> Result<(u8, &[u8]), Unread>
     ensures { Gives (λ x. (x.0, x.1.now)) result (byte_at least most bytes.now) }
 {
@@ -46,7 +46,7 @@ pub fn eight_bytes(bytes: &[u8]) -> Result<(u64, &[u8]), Unread>
 }
 
 /// Reads an id.
-#[tactic(auto, unfolding(sb_fields::specs::Reading::field, sb_fields::specs::Reading::read_then, sb_fields::specs::Reading::give, crate::specs::Reading::handle_at))]
+#[tactic(auto, unfolding(sb_fields::specs::Reading::field, sb_fields::specs::Reading::read_then, sb_fields::specs::Reading::give, sb_model::specs::Reading::handle_at))]
 pub fn read_handle(bytes: &[u8]) -> Result<(Handle, &[u8]), Unread>
     ensures { Gives (λ x. (x.0, x.1.now)) result (handle_at bytes.now) }
 {
@@ -64,7 +64,7 @@ pub(crate) fn two_bytes(bytes: &[u8]) -> Result<(u16, &[u8]), Unread>
 }
 
 /// Reads a side; its two parts are fields of their own.
-#[tactic(auto, unfolding(sb_fields::specs::Reading::read_then, sb_fields::specs::Reading::give, crate::specs::Reading::side_at))]
+#[tactic(auto, unfolding(sb_fields::specs::Reading::read_then, sb_fields::specs::Reading::give, sb_model::specs::Reading::side_at))]
 pub fn read_side(bytes: &[u8]) -> Result<(SideId, &[u8]), Unread>
     ensures { Gives (λ x. (x.0, x.1.now)) result (side_at bytes.now) }
 {
@@ -116,7 +116,7 @@ pub(crate) fn read_text(alloc: Global, bytes: &[u8]) -> Result<(Text, &[u8]), Un
 }
 
 /// Reads a text that is a name.
-#[tactic(auto, unfolding(sb_fields::specs::Reading::such_that, crate::specs::Reading::name_at))]
+#[tactic(auto, unfolding(sb_fields::specs::Reading::such_that, sb_model::specs::Reading::name_at))]
 pub(crate) fn read_name(alloc: Global, bytes: &[u8]) -> Result<(Name, &[u8]), Unread>
     ensures { Gives (λ x. (x.0, x.1.now)) result (name_at bytes.now) }
 {
@@ -149,7 +149,7 @@ fn as_text(bytes: &[u8]) -> Option<&str>
 }
 
 /// Reads a text behind a length of four bytes.
-#[tactic(auto, unfolding(sb_fields::specs::Reading::such_that, crate::specs::Reading::long_text_at))]
+#[tactic(auto, unfolding(sb_fields::specs::Reading::such_that, sb_model::specs::Reading::long_text_at))]
 pub(crate) fn read_long_text(alloc: Global, bytes: &[u8]) -> Result<(Text, &[u8]), Unread>
     ensures { Gives (λ x. (x.0, x.1.now)) result (long_text_at bytes.now) }
 {
@@ -161,7 +161,7 @@ pub(crate) fn read_long_text(alloc: Global, bytes: &[u8]) -> Result<(Text, &[u8]
 }
 
 /// Reads a BIGINT.
-#[tactic(auto, unfolding(sb_fields::specs::Reading::read_then, sb_fields::specs::Reading::give, crate::specs::Reading::bigint_at))]
+#[tactic(auto, unfolding(sb_fields::specs::Reading::read_then, sb_fields::specs::Reading::give, sb_model::specs::Reading::bigint_at))]
 pub(crate) fn read_bigint(bytes: &[u8]) -> Result<(i64, &[u8]), Unread>
     ensures { Gives (λ x. (x.0, x.1.now)) result (bigint_at bytes.now) }
 {
@@ -196,7 +196,7 @@ pub(crate) fn optional_bytes(alloc: Global, bytes: &[u8]) -> Result<(Option<Body
 }
 
 /// Reads a header.
-#[tactic(auto, unfolding(sb_fields::specs::Reading::read_then, sb_fields::specs::Reading::give, crate::specs::Reading::header_at))]
+#[tactic(auto, unfolding(sb_fields::specs::Reading::read_then, sb_fields::specs::Reading::give, sb_model::specs::Reading::header_at))]
 pub fn read_header(alloc: Global, bytes: &[u8]) -> Result<(Header, &[u8]), Unread>
     ensures { Gives (λ x. (x.0, x.1.now)) result (header_at bytes.now) }
 {
@@ -217,7 +217,7 @@ pub fn read_header(alloc: Global, bytes: &[u8]) -> Result<(Header, &[u8]), Unrea
     Ok((header, rest))
 }
 
-#[tactic(auto, unfolding(sb_fields::specs::Reading::read_then, sb_fields::specs::Reading::give, crate::specs::Reading::app_at))]
+#[tactic(auto, unfolding(sb_fields::specs::Reading::read_then, sb_fields::specs::Reading::give, sb_model::specs::Reading::app_at))]
 fn app(alloc: Global, bytes: &[u8]) -> Result<(Content, &[u8]), Unread>
     ensures { Gives (λ x. (x.0, x.1.now)) result (app_at bytes.now) }
 {
@@ -226,7 +226,7 @@ fn app(alloc: Global, bytes: &[u8]) -> Result<(Content, &[u8]), Unread>
     Ok((Content::App { kind, body }, rest))
 }
 
-#[tactic(auto, unfolding(sb_fields::specs::Reading::read_then, sb_fields::specs::Reading::give, crate::specs::Reading::error_at))]
+#[tactic(auto, unfolding(sb_fields::specs::Reading::read_then, sb_fields::specs::Reading::give, sb_model::specs::Reading::error_at))]
 fn error(alloc: Global, bytes: &[u8]) -> Result<(Content, &[u8]), Unread>
     ensures { Gives (λ x. (x.0, x.1.now)) result (error_at bytes.now) }
 {
@@ -236,7 +236,7 @@ fn error(alloc: Global, bytes: &[u8]) -> Result<(Content, &[u8]), Unread>
 }
 
 /// Reads what a side sends.
-#[tactic(auto, unfolding(sb_fields::specs::Reading::read_then, sb_fields::specs::Reading::give, crate::specs::Reading::content_at))]
+#[tactic(auto, unfolding(sb_fields::specs::Reading::read_then, sb_fields::specs::Reading::give, sb_model::specs::Reading::content_at))]
 pub fn read_content(alloc: Global, bytes: &[u8]) -> Result<(Content, &[u8]), Unread>
     ensures { Gives (λ x. (x.0, x.1.now)) result (content_at bytes.now) }
 {

@@ -3,14 +3,14 @@
 ghost use Rattle.std.specs.Prelude.{◌≡◌, ◌++◌, ◌≤◌, ◌<◌, ◌^◌, length, OnOk};
 ghost use Rattle.sb_fields.specs.Spelling.{flag, text16, bytes32, optional};
 ghost use Rattle.sb_entry.specs.Fields.{IsNameField, HeaderFits, BodyFits, ContentFits};
-ghost use Rattle.sb_entry.specs.Spelling.{handle_bytes, side_bytes, header_bytes, content_bytes};
+ghost use Rattle.sb_model.specs.Spelling.{handle_bytes, side_bytes, header_bytes, content_bytes};
 
 use sb_fields::{put_bytes32, put_text16, put_u8, put_u32, put_u64, put_u128};
 use sb_log::{Body, Content, Handle, Header, Name, SideId};
 use std::alloc::AllocError;
 
 /// Appends an id.
-#[tactic(auto, unfolding(crate::specs::Spelling::handle_bytes))]
+#[tactic(auto, unfolding(sb_model::specs::Spelling::handle_bytes))]
 pub fn put_handle(out: &mut Vec<u8>, handle: Handle) -> Result<(), AllocError>
     ensures { OnOk result (out.new.items ≡ out.old.items ++ handle_bytes handle) }
 {
@@ -18,7 +18,7 @@ pub fn put_handle(out: &mut Vec<u8>, handle: Handle) -> Result<(), AllocError>
 }
 
 /// Appends a side.
-#[tactic(auto, unfolding(crate::specs::Spelling::side_bytes))]
+#[tactic(auto, unfolding(sb_model::specs::Spelling::side_bytes))]
 pub fn put_side(out: &mut Vec<u8>, side: SideId) -> Result<(), AllocError>
     ensures { OnOk result (out.new.items ≡ out.old.items ++ side_bytes side) }
 {
@@ -60,7 +60,7 @@ pub(crate) fn put_optional_handle(
 }
 
 /// Appends a header.
-#[tactic(auto, unfolding(crate::specs::Spelling::header_bytes))]
+#[tactic(auto, unfolding(sb_model::specs::Spelling::header_bytes))]
 pub fn put_header(out: &mut Vec<u8>, header: &Header) -> Result<(), AllocError>
     requires { HeaderFits header.now }
     ensures { OnOk result (out.new.items ≡ out.old.items ++ header_bytes header.now) }
@@ -89,7 +89,7 @@ pub(crate) fn put_body(out: &mut Vec<u8>, body: &Option<Body>) -> Result<(), All
 }
 
 /// Appends what a side sends.
-#[tactic(auto, unfolding(crate::specs::Spelling::content_bytes))]
+#[tactic(auto, unfolding(sb_model::specs::Spelling::content_bytes))]
 pub fn put_content(out: &mut Vec<u8>, content: &Content) -> Result<(), AllocError>
     requires { ContentFits content.now }
     ensures { OnOk result (out.new.items ≡ out.old.items ++ content_bytes content.now) }

@@ -9,11 +9,11 @@ use Rattle.sb_fields.specs.Spelling.{Bytes, number, flag}
 use Rattle.sb_fields.specs.Reading.{Reading, read_then, give, such_that, number_at, flag_at, whole}
 use Rattle.sb_fields.proofs.Numbers.{AreBytes}
 use Rattle.sb_fields.proofs.Readings.{ReadsOnly, ReadsAgain, ReadsExactly, then_again, give_again, again_is, then_exactly, give_only, if_only, such_that_exactly, number_read, flag_read, whole_again, whole_only}
-use Rattle.sb_entry.specs.Spelling.{handle_bytes, side_bytes, header_bytes, content_bytes}
-use Rattle.sb_entry.specs.Reading.{byte_at}
+use Rattle.sb_model.specs.Spelling.{handle_bytes, side_bytes, header_bytes, content_bytes}
+use Rattle.sb_model.specs.Reading.{byte_at}
 use Rattle.sb_entry.proofs.MessageLaws.{in_words, handle_read, Between, byte_read, side_read, header_read, content_read}
-use Rattle.sb_frame.specs.Spelling.{mark, frame_bytes}
-use Rattle.sb_frame.specs.Reading.{message_number_at, data_at, ack_at, frame_of, frame_at, decode_frame}
+use Rattle.sb_model.specs.Spelling.{mark, frame_bytes}
+use Rattle.sb_model.specs.FrameReading.{message_number_at, data_at, ack_at, frame_of, frame_at, decode_frame}
 use Rattle.sb_frame.specs.Values.{IsFrame}
 use Rattle.sb_frame.specs.Decodes.{Decodes}
 use Rattle.sb_frame.specs.declared.refused.FrameRefused.{FrameRefused}

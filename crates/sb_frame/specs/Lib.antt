@@ -1,5 +1,3 @@
-pub mod Spelling
-pub mod Reading
 pub mod Fields
 pub mod Values
 pub mod Decodes

@@ -5,8 +5,8 @@ ghost use Rattle.sb_log.specs.declared.messages.Frame.{Frame};
 ghost use Rattle.sb_entry.specs.Gives.{Gives};
 ghost use Rattle.sb_frame.specs.Decodes.{Decodes};
 ghost use Rattle.sb_frame.specs.Fields.{FrameFits};
-ghost use Rattle.sb_frame.specs.Reading.{message_number_at, data_at, ack_at, frame_at, decode_frame};
-ghost use Rattle.sb_frame.specs.Spelling.{mark, frame_bytes};
+ghost use Rattle.sb_model.specs.FrameReading.{message_number_at, data_at, ack_at, frame_at, decode_frame};
+ghost use Rattle.sb_model.specs.Spelling.{mark, frame_bytes};
 ghost use Rattle.sb_frame.specs.Values.{IsFrame};
 
 use crate::refused::FrameRefused;
@@ -24,7 +24,7 @@ const LETTERS: [u8; 2] = *b"SB";
 /// The version of the frames.
 const VERSION: u8 = 1;
 
-#[tactic(auto, unfolding(crate::specs::Spelling::mark))]
+#[tactic(auto, unfolding(sb_model::specs::Spelling::mark))]
 fn put_mark(out: &mut Vec<u8>) -> Result<(), AllocError>
     ensures { OnOk result (out.new.items ≡ out.old.items ++ mark) }
 {
@@ -33,7 +33,7 @@ fn put_mark(out: &mut Vec<u8>) -> Result<(), AllocError>
     put_u8(out, VERSION)
 }
 
-#[tactic(auto, unfolding(crate::specs::Spelling::frame_bytes))]
+#[tactic(auto, unfolding(sb_model::specs::Spelling::frame_bytes))]
 fn put_frame(out: &mut Vec<u8>, frame: &Frame) -> Result<(), AllocError>
     requires { FrameFits frame.now }
     ensures { OnOk result (out.new.items ≡ out.old.items ++ frame_bytes frame.now) }
@@ -67,7 +67,7 @@ pub fn encode(alloc: Global, frame: &Frame) -> Result<Vec<u8>, AllocError>
     Ok(out)
 }
 
-#[tactic(auto, unfolding(sb_fields::specs::Reading::such_that, crate::specs::Reading::message_number_at))]
+#[tactic(auto, unfolding(sb_fields::specs::Reading::such_that, sb_model::specs::FrameReading::message_number_at))]
 fn message_number(bytes: &[u8]) -> Result<(u64, &[u8]), Unread>
     ensures { Gives (λ x. (x.0, x.1.now)) result (message_number_at bytes.now) }
 {
@@ -79,7 +79,7 @@ fn message_number(bytes: &[u8]) -> Result<(u64, &[u8]), Unread>
     }
 }
 
-#[tactic(auto, unfolding(sb_fields::specs::Reading::read_then, sb_fields::specs::Reading::give, crate::specs::Reading::data_at))]
+#[tactic(auto, unfolding(sb_fields::specs::Reading::read_then, sb_fields::specs::Reading::give, sb_model::specs::FrameReading::data_at))]
 fn data(alloc: Global, bytes: &[u8]) -> Result<(Frame, &[u8]), Unread>
     ensures { Gives (λ x. (x.0, x.1.now)) result (data_at bytes.now) }
 {
@@ -96,7 +96,7 @@ fn data(alloc: Global, bytes: &[u8]) -> Result<(Frame, &[u8]), Unread>
     Ok((Frame::Data(data), rest))
 }
 
-#[tactic(auto, unfolding(sb_fields::specs::Reading::read_then, sb_fields::specs::Reading::give, crate::specs::Reading::ack_at))]
+#[tactic(auto, unfolding(sb_fields::specs::Reading::read_then, sb_fields::specs::Reading::give, sb_model::specs::FrameReading::ack_at))]
 fn ack(bytes: &[u8]) -> Result<(Frame, &[u8]), Unread>
     ensures { Gives (λ x. (x.0, x.1.now)) result (ack_at bytes.now) }
 {
@@ -113,7 +113,7 @@ fn ack(bytes: &[u8]) -> Result<(Frame, &[u8]), Unread>
     Ok((Frame::Ack(ack), rest))
 }
 
-#[tactic(auto, unfolding(sb_fields::specs::Reading::read_then, sb_fields::specs::Reading::give, crate::specs::Reading::frame_at))]
+#[tactic(auto, unfolding(sb_fields::specs::Reading::read_then, sb_fields::specs::Reading::give, sb_model::specs::FrameReading::frame_at))]
 fn read_frame(alloc: Global, bytes: &[u8]) -> Result<(Frame, &[u8]), Unread>
     ensures { Gives (λ x. (x.0, x.1.now)) result (frame_at bytes.now) }
 {

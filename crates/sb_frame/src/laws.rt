@@ -3,8 +3,8 @@
 ghost use Rattle.std.specs.Prelude.{◌≡◌, ◌++◌, ℕ, List, Ok};
 ghost use Rattle.sb_log.specs.declared.messages.Frame.{Frame};
 ghost use Rattle.sb_fields.specs.Laws.{OneSpelling};
-ghost use Rattle.sb_frame.specs.Reading.{frame_at};
-ghost use Rattle.sb_frame.specs.Spelling.{frame_bytes};
+ghost use Rattle.sb_model.specs.FrameReading.{frame_at};
+ghost use Rattle.sb_model.specs.Spelling.{frame_bytes};
 ghost use Rattle.sb_frame.specs.Values.{IsFrame};
 
 /// The spelling of a frame is no spelling of another, and none begins another one.

@@ -1,7 +1,7 @@
 use Rattle.std.proofs.Common.{◌≡◌, ◌++◌, ◌∷◌, []}
 use Rattle.std.proofs.lemmas.Result.{err_from_is_err_and}
 use Rattle.sb_fields.specs.Reading.{list_at}
-use Rattle.sb_entry.specs.Reading.{name_at}
+use Rattle.sb_model.specs.Reading.{name_at}
 use Rattle.sb_entry.proofs.Loop.{goes_on, ends, is_done}
 use Rattle.sb_entry.proofs.definition_reading.names.Goals as goal
 

@@ -1,6 +1,6 @@
 use Rattle.std.proofs.Common.{◌≡◌, ◌-◌}
 use Rattle.sb_fields.specs.Reading.{list_at}
-use Rattle.sb_entry.specs.Reading.{sent_by_at}
+use Rattle.sb_model.specs.Reading.{sent_by_at}
 use Rattle.sb_entry.proofs.Loop.{with_front}
 use Rattle.sb_entry.proofs.definition_reading.sent_bys.Given as goal
 

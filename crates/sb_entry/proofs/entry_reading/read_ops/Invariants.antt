@@ -1,6 +1,6 @@
 use Rattle.std.proofs.Common.{◌≡◌, ◌-◌}
 use Rattle.sb_fields.specs.Reading.{list_at}
-use Rattle.sb_entry.specs.Reading.{op_at}
+use Rattle.sb_model.specs.Reading.{op_at}
 use Rattle.sb_entry.proofs.Loop.{with_front}
 use Rattle.sb_entry.proofs.entry_reading.read_ops.Given as goal
 
