@@ -4,3 +4,4 @@ pub mod DefinitionLaws
 pub mod EntryLaws
 pub mod WholeLaws
 pub mod PartLengths
+pub mod Sized

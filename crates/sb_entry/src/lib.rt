@@ -18,7 +18,7 @@ mod refused;
 mod unread;
 
 pub use coding::{decode, encode};
-pub use laws::{entry_has_one_spelling, entry_is_read_again};
+pub use laws::{entry_has_its_size, entry_has_one_spelling, entry_is_read_again};
 pub use lengths::encoded_len;
 pub use message_reading::{
     byte_between, eight_bytes, read_content, read_flag, read_handle, read_header, read_side,
