@@ -5,3 +5,4 @@ pub mod EntryLaws
 pub mod WholeLaws
 pub mod PartLengths
 pub mod Sized
+pub mod FitsLaws

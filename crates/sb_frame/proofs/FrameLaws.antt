@@ -14,6 +14,8 @@ use Rattle.sb_model.specs.Reading.{byte_at}
 use Rattle.sb_entry.proofs.MessageLaws.{in_words, handle_read, Between, byte_read, side_read, header_read, content_read}
 use Rattle.sb_model.specs.Spelling.{mark, frame_bytes}
 use Rattle.sb_model.specs.FrameReading.{message_number_at, data_at, ack_at, frame_of, frame_at, decode_frame}
+use Rattle.sb_entry.proofs.FitsLaws.{header_fits, content_fits}
+use Rattle.sb_frame.specs.Fields.{FrameFits}
 use Rattle.sb_frame.specs.Values.{IsFrame}
 use Rattle.sb_frame.specs.Decodes.{Decodes}
 use Rattle.sb_frame.specs.declared.refused.FrameRefused.{FrameRefused}
@@ -70,3 +72,8 @@ decoded bytes (Err e) fits given = tt
 
 pub decodes_again : (bytes : Bytes) (frame : Frame) → IsFrame frame → bytes ≡ frame_bytes frame → decode_frame bytes ≡ Ok frame
 decodes_again bytes frame fits e = ap decode_frame e ∙ whole_again frame_at (frame_bytes frame) frame (frame_read.reads frame fits)
+
+-- a frame that was decoded can be encoded
+pub frame_fits : (x : Frame) → IsFrame x → FrameFits x
+frame_fits (Data d) f = (f.1.0, header_fits d.header f.2, content_fits d.content f.3)
+frame_fits (Ack a) f = tt
