@@ -74,6 +74,7 @@ reader_world w luck x n k r h roomy e = by_words (is_of_reader_words k) e
     by_open None f g = none_is r g
     by_open (Some o) f g = done_world w x (words_told k (refused_reader luck (part w x) o k)) r h g
         (λ d i. subst (λ z. Steps (part w x) z.part) (told_is k (refused_reader luck (part w x) o k) d i) (refused_reader_moved (part w x) (h.each x) (roomy.room x) luck n o k f))
+
     by_words : (c : Bool) → cond c (option_map (on_part w x) (option_and_then (λ z. words_told k (refused_reader luck (part w x) z k)) (runnable (part w x) n))) None ≡ Some r → Keeps w r.world
     by_words true f = by_open (runnable (part w x) n) refl f
     by_words false f = none_is r f
@@ -207,7 +208,7 @@ step_keeps w who e given r f h roomy = none_is r f
 
 -- ---- histories
 
-next_keeps : (w : World) (s : Step) (o : Option Stepped) → outcome w s ≡ o → Gives o s → WorldOk w → IsRoomy w → Keeps w (world_of w o)
+pub next_keeps : (w : World) (s : Step) (o : Option Stepped) → outcome w s ≡ o → Gives o s → WorldOk w → IsRoomy w → Keeps w (world_of w o)
 next_keeps w s None e g h roomy = absurd g
 next_keeps w s (Some r) e g h roomy = step_keeps w s.who s.event s.answer r e h roomy
 

@@ -145,9 +145,11 @@ module _ (low top : ℕ) (le : low + 4 ≤ top) (some : 1 ≤ low) (w : World) (
       by_told o None f i g = none_low r g
       by_told o (Some d) f i g = some_low _ r g (on_low x d (subst (λ z. PartLow top z.part) (told_is k (refused_reader luck (part w x) o k) d i)
           (refused_low low top le (part w x) (h.each x) o (all_found (OpenLow top) _ (part w x).open_txns o (later.each x).opens (runnable_open (part w x) n o f)) luck k)))
+
       by_open : (o : Option OpenTransaction) → runnable (part w x) n ≡ o → option_map (on_part w x) (option_and_then (λ z. words_told k (refused_reader luck (part w x) z k)) o) ≡ Some r → WorldLow top r.world
       by_open None f g = none_low r g
       by_open (Some o) f g = by_told o (words_told k (refused_reader luck (part w x) o k)) f refl g
+
       by_words : (c : Bool) → cond c (option_map (on_part w x) (option_and_then (λ z. words_told k (refused_reader luck (part w x) z k)) (runnable (part w x) n))) None ≡ Some r → WorldLow top r.world
       by_words true f = by_open (runnable (part w x) n) refl f
       by_words false f = none_low r f

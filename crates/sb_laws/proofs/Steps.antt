@@ -101,13 +101,13 @@ module _ (p : Part) (h : PartOk p) (room : HasRoom p) (up : p.up ≡ true) where
     open_ok : OpenOk p.who p.log n m o.tx o.ops o.groups
     open_ok = all_found (IsOpenOk p.who p.log n m) q U o live.each found
 
-    view_is : (now : ℕ) → seen (ask p o.tx now) ≡ with_ops p.log o.tx o.ops
+    pub view_is : (now : ℕ) → seen (ask p o.tx now) ≡ with_ops p.log o.tx o.ops
     view_is now = ap (λ r. option_map_or (λ z. with_ops p.log o.tx z.ops) r p.log) (find_again q U o live.pairs found)
 
-    view_ok : LogOk p.who (with_ops p.log o.tx o.ops)
+    pub view_ok : LogOk p.who (with_ops p.log o.tx o.ops)
     view_ok = log_committed p.who p.log n m o.tx o.ops o.groups (log_ok p h) open_ok
 
-    view_counted : (now : ℕ) → AllByRecursion (IsCounted p.who n) (makings (seen (ask p o.tx now)))
+    pub view_counted : (now : ℕ) → AllByRecursion (IsCounted p.who n) (makings (seen (ask p o.tx now)))
     view_counted now = subst (λ l. AllByRecursion (IsCounted p.who n) (makings l)) (sym (view_is now)) (subst (AllByRecursion (IsCounted p.who n)) (sym (makings_view p.log o.tx o.ops))
         (all_append (IsCounted p.who n) (makings p.log) (flat_map made_by_op o.ops) live.counted (counted_ops p.who n o.ops open_ok.begins_below)))
 
@@ -222,7 +222,7 @@ module _ (p : Part) (h : PartOk p) (room : HasRoom p) (up : p.up ≡ true) where
 
   -- ---- new transactions
 
-  view_none : (now : ℕ) → seen (ask p m now) ≡ p.log
+  pub view_none : (now : ℕ) → seen (ask p m now) ≡ p.log
   view_none now = ap (λ r. option_map_or (λ z. with_ops p.log m z.ops) r p.log) (find_above U m (all_weaker (IsOpenOk p.who p.log n m) (λ b. b.tx < m) (λ b o. o.below) U live.each))
 
   tx_other : (b : OpenTransaction) → IsOpenOk p.who p.log n m b → (b.tx == m) ≡ false
@@ -412,7 +412,7 @@ session_step_moved p h room luck session now req = by_test p.up refl
     by_test false e = stays p h
 
 -- a reader that is open is of an instance that is up
-open_is_up : (p : Part) → PartOk p → (q : OpenTransaction → Bool) (o : OpenTransaction) → find q p.open_txns ≡ Some o → p.up ≡ true
+pub open_is_up : (p : Part) → PartOk p → (q : OpenTransaction → Bool) (o : OpenTransaction) → find q p.open_txns ≡ Some o → p.up ≡ true
 open_is_up p h q o e = by_test p.up refl
   where
     by_test : (c : Bool) → p.up ≡ c → p.up ≡ true

@@ -12,7 +12,7 @@ ghost use Rattle.sb_model.specs.Logs.{WellFormed};
 ghost use Rattle.sb_log.specs.declared.entries.Entry.{Entry};
 ghost use Rattle.sb_log.specs.declared.steps.Step.{Step};
 ghost use Rattle.sb_model.specs.Steps.{World};
-ghost use Rattle.sb_model.specs.Histories.{Legal, Gives, outcome, after, first_world, at_most, kept};
+ghost use Rattle.sb_model.specs.Histories.{Legal, Gives, outcome, after, first_world, at_most, kept, HoldsGroupsAlone, CommitsWhole};
 ghost use Rattle.sb_model.specs.Survival.{Survives};
 ghost use Rattle.sb_model.specs.Links.{DeliversInOrder, DeliversInTurn, StaysLinked, both};
 ghost use Rattle.sb_laws.specs.Worlds.{StaysFresh};
@@ -87,4 +87,21 @@ pub fn delivers_in_turn()
         → Survives (at_most (after (first_world log_a end_a log_b end_b) steps) A) (kept (after (first_world log_a end_a log_b end_b) steps) A) a
         → Survives (at_most (after (first_world log_a end_a log_b end_b) steps) B) (kept (after (first_world log_a end_a log_b end_b) steps) B) b
         → DeliversInTurn (both a b) }
+{}
+
+/// Along every legal history from linked logs, from a transaction's first touch of a group to its end no other transaction of the instance
+/// touches that group.
+pub fn holds_groups_alone()
+    ensures { (log_a log_b : List Entry) (end_a end_b : Option ℕ) (steps : List Step)
+        → StartsLinked log_a log_b → length steps ≤ 2 ^ 60
+        → Legal (first_world log_a end_a log_b end_b) steps → StaysFresh (first_world log_a end_a log_b end_b) steps
+        → HoldsGroupsAlone (first_world log_a end_a log_b end_b) steps }
+{}
+
+/// And each transaction that a step adds to a log, or that an opening finds, asked to commit and has all its operations in their order.
+pub fn commits_whole()
+    ensures { (log_a log_b : List Entry) (end_a end_b : Option ℕ) (steps : List Step)
+        → StartsLinked log_a log_b → length steps ≤ 2 ^ 60
+        → Legal (first_world log_a end_a log_b end_b) steps → StaysFresh (first_world log_a end_a log_b end_b) steps
+        → CommitsWhole (first_world log_a end_a log_b end_b) steps }
 {}
