@@ -37,7 +37,7 @@ use Rattle.sb_model.specs.Catalog.{queues}
 use Rattle.sb_model.specs.Deadlines.{Due, due}
 use Rattle.sb_model.specs.Acceptance.{verdict, ack_verdict, receiver}
 use Rattle.sb_model.specs.Frames.{frames_due}
-use Rattle.sb_model.specs.Reading.{decode_frame}
+use Rattle.sb_model.specs.FrameReading.{decode_frame}
 use Rattle.sb_model.specs.Dump.{dump}
 use Rattle.sb_model.specs.Transactions.{OpenTransaction}
 use Rattle.sb_model.specs.Instance.{Part, Luck, Done, append, opened, down_with, end_of, refused}

@@ -146,7 +146,7 @@ service_more log more name e =
 queue_view : (log : List Entry) (tx : ℕ) (ops : List Op) (q : Bytes) → is_some (find_queue (with_ops log tx ops) q) ≡ is_some (find_queue log q)
 queue_view log tx ops q = ap (λ ds. is_some (find (λ def. same_name def.name q) (flat_map queue_def ds))) (definitions_view log tx ops)
 
-service_view : (log : List Entry) (tx : ℕ) (ops : List Op) (name : Bytes) → is_some (find_service (with_ops log tx ops) name) ≡ is_some (find_service log name)
+pub service_view : (log : List Entry) (tx : ℕ) (ops : List Op) (name : Bytes) → is_some (find_service (with_ops log tx ops) name) ≡ is_some (find_service log name)
 service_view log tx ops name = ap (λ ds. is_some (find (λ def. same_name def.name name) (flat_map service_def ds))) (definitions_view log tx ops)
 
 item_more : (log more : List Entry) (n : ℕ) → is_item log n ≡ true → is_item (log ++ more) n ≡ true

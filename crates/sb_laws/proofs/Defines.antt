@@ -68,7 +68,7 @@ defined_allowed log (ddl.Procedure d) e = none_there (find_procedure log d.name)
 
 -- ---- turnings off
 
-names_self : (n : Bytes) → same_name n n ≡ true
+pub names_self : (n : Bytes) → same_name n n ≡ true
 names_self [] = refl
 names_self (c ∷ n) = both_true _ (same_name n n) (eq-eqb c c refl) (names_self n)
 

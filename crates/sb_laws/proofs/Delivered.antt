@@ -112,7 +112,7 @@ module _ (x : Who) where
           by_test false f g rest = rest g
 
 -- a conversation has one home
-one_home : (x y : Who) (c : Handle) → IsTrue (is_home x c) → IsTrue (is_home y c) → x ≡ y
+pub one_home : (x y : Who) (c : Handle) → IsTrue (is_home x c) → IsTrue (is_home y c) → x ≡ y
 one_home A A c h k = refl
 one_home B B c h k = refl
 one_home A B c h k = absurd (omega (arith, eqb-true (tag_of c) (tag A) h, eqb-true (tag_of c) (tag B) k))

@@ -25,6 +25,7 @@ pub mod Deliveries
 pub mod Worlds
 pub mod Delivery
 pub mod ActWorlds
+pub mod Lost
 pub mod Starts
 pub mod Histories
 pub mod Low

@@ -35,7 +35,7 @@ use Rattle.sb_model.specs.Deadlines.{Due, due}
 use Rattle.sb_model.specs.Acceptance.{verdict}
 use Rattle.sb_model.specs.Frames.{Sent, Owed, frames_due, data_frames, data_from, ack_frame, ack_of, by_level, no_later, destination}
 use Rattle.sb_model.specs.Spelling.{frame_bytes}
-use Rattle.sb_model.specs.Reading.{decode_frame}
+use Rattle.sb_model.specs.FrameReading.{decode_frame}
 use Rattle.sb_model.specs.Dump.{dump}
 use Rattle.sb_model.specs.Transactions.{OpenTransaction}
 use Rattle.sb_model.specs.Instance.{Part, Luck, Done, append, opened, down_with, end_of, refused}

@@ -29,6 +29,8 @@ use Rattle.sb_laws.proofs.Views.{items_view}
 use Rattle.sb_laws.proofs.Delivered.{receives_in_order}
 use Rattle.sb_model.specs.Links.{DeliversInTurn}
 use Rattle.sb_laws.proofs.InTurn.{delivers_in_turn}
+use Rattle.sb_laws.specs.Kept.{KeepsOutgoing, KeepsItems}
+use Rattle.sb_laws.proofs.Lost.{keeps_outgoing, keeps_items}
 use Rattle.sb_laws.proofs.Opens.{LogOk, AreWithin}
 use Rattle.sb_laws.proofs.Parts.{PartOk}
 use Rattle.sb_laws.proofs.Worlds.{WorldOk, AreBelow, opened_low, opened_ok}
@@ -182,6 +184,18 @@ in_turn_after log_a log_b end_a end_b steps h short legal fresh a b sa sb =
     formed : (x : Who) → WellFormed (both a b x)
     formed A = formed_after log_a log_b end_a end_b steps h short legal fresh A a sa
     formed B = formed_after log_a log_b end_a end_b steps h short legal fresh B b sb
+
+pub outgoing_after : (log_a log_b : List Entry) (end_a end_b : Option ℕ) (steps : List Step) → StartsLinked log_a log_b → length steps ≤ 2 ^ 60 →
+    Legal (first_world log_a end_a log_b end_b) steps → StaysFresh (first_world log_a end_a log_b end_b) steps → (a b : List Entry) →
+    Survives (at_most (after (first_world log_a end_a log_b end_b) steps) A) (kept (after (first_world log_a end_a log_b end_b) steps) A) a →
+    Survives (at_most (after (first_world log_a end_a log_b end_b) steps) B) (kept (after (first_world log_a end_a log_b end_b) steps) B) b → KeepsOutgoing (both a b)
+outgoing_after log_a log_b end_a end_b steps h short legal fresh a b sa sb =
+    keeps_outgoing (both a b) (after (first_world log_a end_a log_b end_b) steps).wire (linked_after log_a log_b end_a end_b steps h short legal fresh a b sa sb)
+
+pub items_after : (log_a log_b : List Entry) (end_a end_b : Option ℕ) (steps : List Step) → StartsLinked log_a log_b → length steps ≤ 2 ^ 60 →
+    Legal (first_world log_a end_a log_b end_b) steps → StaysFresh (first_world log_a end_a log_b end_b) steps → (x : Who) (l : List Entry) →
+    Survives (at_most (after (first_world log_a end_a log_b end_b) steps) x) (kept (after (first_world log_a end_a log_b end_b) steps) x) l → KeepsItems l
+items_after log_a log_b end_a end_b steps h short legal fresh x l s = keeps_items l (formed_after log_a log_b end_a end_b steps h short legal fresh x l s)
 
 -- ---- a log that is made by hand
 

@@ -31,7 +31,7 @@ use Rattle.sb_model.specs.Definitions.{define_refusal, own_refusal, first_refusa
 use Rattle.sb_model.specs.Groups.{group_exists}
 use Rattle.sb_model.specs.Histories.{is_waiting}
 use Rattle.sb_model.specs.Instance.{Part, no_room, no_room_behind, first_some, too_big, too_full}
-use Rattle.sb_model.specs.Spelling.{record_size}
+use Rattle.sb_model.specs.Sizes.{record_size}
 use Rattle.sb_laws.proofs.Grow.{all_append}
 use Rattle.sb_model.specs.Pick.{Pick, pick}
 use Rattle.sb_model.specs.Rows.{rows_of}

@@ -17,7 +17,7 @@ use Rattle.sb_model.specs.Sides.{Bytes, same_name, other, is_home, tag_of, tag}
 use Rattle.sb_model.specs.Sides.{Making, makings}
 use Rattle.sb_model.specs.Frames.{Sent, frames_due}
 use Rattle.sb_model.specs.Spelling.{frame_bytes}
-use Rattle.sb_model.specs.Reading.{decode_frame}
+use Rattle.sb_model.specs.FrameReading.{decode_frame}
 use Rattle.sb_model.specs.Instance.{Part, Luck, opened, down_with, end_of, refused, ids, low_half, own_low, next_handle_of, next_tx_of, tx_of}
 use Rattle.sb_model.specs.Logs.{is_fresh}
 use Rattle.sb_model.specs.Wire.{lines_from, Wired, wired, no_longer_waits, spelled_on, put, wire_size, sent_size}

@@ -2,3 +2,4 @@ pub mod Worlds
 pub mod Starts
 pub mod Ready
 pub mod Fresh
+pub mod Kept

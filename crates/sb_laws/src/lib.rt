@@ -19,6 +19,7 @@ ghost use Rattle.sb_laws.specs.Worlds.{StaysFresh};
 ghost use Rattle.sb_laws.specs.Starts.{StartsLinked, IsReady};
 ghost use Rattle.sb_laws.specs.Ready.{ready_log};
 ghost use Rattle.sb_laws.specs.Fresh.{is_under, SpellsLow};
+ghost use Rattle.sb_laws.specs.Kept.{KeepsOutgoing, KeepsItems};
 
 /// A legal history goes on with each step whose answer is that of `step`.
 pub fn legal_history_grows()
@@ -104,4 +105,26 @@ pub fn commits_whole()
         → StartsLinked log_a log_b → length steps ≤ 2 ^ 60
         → Legal (first_world log_a end_a log_b end_b) steps → StaysFresh (first_world log_a end_a log_b end_b) steps
         → CommitsWhole (first_world log_a end_a log_b end_b) steps }
+{}
+
+/// Nothing is lost of what was numbered: after a legal history from linked logs, in whatever survives, the messages that a side numbered
+/// past those that its partner accepted are still to be sent, unless the side was cleaned or expired or was told that the partner closed.
+pub fn keeps_outgoing()
+    ensures { (log_a log_b : List Entry) (end_a end_b : Option ℕ) (steps : List Step)
+        → StartsLinked log_a log_b → length steps ≤ 2 ^ 60
+        → Legal (first_world log_a end_a log_b end_b) steps → StaysFresh (first_world log_a end_a log_b end_b) steps
+        → (a b : List Entry)
+        → Survives (at_most (after (first_world log_a end_a log_b end_b) steps) A) (kept (after (first_world log_a end_a log_b end_b) steps) A) a
+        → Survives (at_most (after (first_world log_a end_a log_b end_b) steps) B) (kept (after (first_world log_a end_a log_b end_b) steps) B) b
+        → KeepsOutgoing (both a b) }
+{}
+
+/// And nothing is lost of what was accepted: each item is taken, or of a side that was ended or cleaned, or it waits in a queue.
+pub fn keeps_items()
+    ensures { (log_a log_b : List Entry) (end_a end_b : Option ℕ) (steps : List Step)
+        → StartsLinked log_a log_b → length steps ≤ 2 ^ 60
+        → Legal (first_world log_a end_a log_b end_b) steps → StaysFresh (first_world log_a end_a log_b end_b) steps
+        → (x : Who) (log : List Entry)
+        → Survives (at_most (after (first_world log_a end_a log_b end_b) steps) x) (kept (after (first_world log_a end_a log_b end_b) steps) x) log
+        → KeepsItems log }
 {}
