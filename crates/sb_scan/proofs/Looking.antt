@@ -10,7 +10,7 @@ use Rattle.std.proofs.lemmas.List.Folds.{list_any-append, find-append}
 use Rattle.sb_log.specs.declared.identifiers.SideId.{SideId}
 use Rattle.sb_log.specs.declared.entries.Entry.{Entry}
 use Rattle.sb_log.specs.declared.messages.Content.{Content}
-use Rattle.sb_model.specs.Sides.{Making, is_of, made, made_by, makings, has_side, ops_of, ops_of_entry}
+use Rattle.sb_model.specs.Sides.{is_of, made, made_by, makings, has_side, ops_of, ops_of_entry}
 use Rattle.sb_log.specs.declared.identifiers.Handle.{Handle}
 use Rattle.sb_model.specs.Groups.{group_moved}
 use Rattle.sb_model.specs.States.{is_empty}

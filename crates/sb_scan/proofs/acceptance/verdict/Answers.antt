@@ -1,4 +1,4 @@
-use Rattle.std.proofs.Common.{◌≡◌, ◌∙◌, ap}
+use Rattle.std.proofs.Common.{◌∙◌, ap}
 use Rattle.sb_model.specs.Messages.{is_closed}
 use Rattle.sb_scan.proofs.acceptance.verdict.Goals as goal
 

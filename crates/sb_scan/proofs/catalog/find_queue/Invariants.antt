@@ -1,7 +1,5 @@
-use Rattle.std.proofs.Common.{◌≡◌, drop, ◌++◌, ◌≤◌, ◌+◌, max, map}
-use Rattle.std.specs.Prelude.{find, flat_map, filter, fold, slice_get, None, option_map}
-use Rattle.std.specs.List.{list_any, last_or}
-use Rattle.sb_model.specs.Catalog.{message_def, contract_def, definitions, find_queue, find_service, find_table, setting}
+use Rattle.std.proofs.Common.{◌≡◌, drop}
+use Rattle.sb_model.specs.Catalog.{find_queue}
 use Rattle.sb_scan.proofs.catalog.find_queue.Given as goal
 
 abbrev pub invariant-loop-entry : goal.invariant-loop-entry

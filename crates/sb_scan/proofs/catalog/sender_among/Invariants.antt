@@ -1,7 +1,6 @@
-use Rattle.std.proofs.Common.{◌≡◌, drop, ◌++◌, ◌≤◌, ◌+◌, max, map}
-use Rattle.std.specs.Prelude.{find, flat_map, filter, fold, slice_get, None, option_map}
-use Rattle.std.specs.List.{list_any, last_or}
-use Rattle.sb_model.specs.Sides.{is_of, made, made_by, made_by_op, makings, sides, same_id, same_side, same_name, ops_of}
+use Rattle.std.proofs.Common.{◌≡◌, drop}
+use Rattle.std.specs.Prelude.{find, option_map}
+use Rattle.sb_model.specs.Sides.{same_name}
 use Rattle.sb_scan.proofs.catalog.sender_among.Given as goal
 
 abbrev pub invariant-loop-sent : goal.invariant-loop-sent

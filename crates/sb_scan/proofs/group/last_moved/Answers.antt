@@ -1,4 +1,4 @@
-use Rattle.std.proofs.Common.{◌≡◌, ◌+◌, sym, ◌∙◌, ap, drop, arith}
+use Rattle.std.proofs.Common.{◌+◌, sym, ◌∙◌, ap, drop, arith}
 use Rattle.std.specs.Prelude.{flat_map}
 use Rattle.std.specs.List.{last_or}
 use Rattle.sb_model.specs.Sides.{ops_of}

@@ -1,6 +1,6 @@
-use Rattle.std.proofs.Common.{◌≡◌, drop, ◌++◌, ◌≤◌, ◌+◌, max, map}
-use Rattle.std.specs.Prelude.{find, flat_map, filter, fold, slice_get, None, option_map}
-use Rattle.std.specs.List.{list_any, last_or}
+use Rattle.std.proofs.Common.{◌≡◌, drop}
+use Rattle.std.specs.Prelude.{flat_map}
+use Rattle.std.specs.List.{last_or}
 use Rattle.sb_model.specs.Groups.{group_moved}
 use Rattle.sb_scan.proofs.group.moved_among.Given as goal
 

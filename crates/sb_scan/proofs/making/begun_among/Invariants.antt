@@ -1,7 +1,6 @@
-use Rattle.std.proofs.Common.{◌≡◌, drop, ◌++◌, ◌≤◌, ◌+◌, max, map}
-use Rattle.std.specs.Prelude.{find, flat_map, fold, slice_get}
-use Rattle.std.specs.List.{list_any}
-use Rattle.sb_model.specs.Sides.{is_of, made, made_by, made_by_op, makings, sides, same_id}
+use Rattle.std.proofs.Common.{◌≡◌, drop}
+use Rattle.std.specs.Prelude.{find, flat_map}
+use Rattle.sb_model.specs.Sides.{is_of, made_by_op}
 use Rattle.sb_scan.proofs.making.begun_among.Given as goal
 
 abbrev pub invariant-loop-op : goal.invariant-loop-op

@@ -1,4 +1,4 @@
-use Rattle.std.proofs.Common.{◌≡◌, sym, ◌∙◌, ap}
+use Rattle.std.proofs.Common.{sym, ◌∙◌, ap}
 use Rattle.std.specs.Prelude.{is_some}
 use Rattle.sb_scan.specs.Seen.{making_of}
 use Rattle.sb_scan.proofs.Looking.{is_some-map, made_is_there}

@@ -1,7 +1,5 @@
-use Rattle.std.proofs.Common.{◌≡◌, drop, ◌++◌, ◌≤◌, ◌+◌, max, map}
-use Rattle.std.specs.Prelude.{find, flat_map, fold, slice_get}
-use Rattle.std.specs.List.{list_any}
-use Rattle.sb_model.specs.Sides.{is_of, made, made_by, made_by_op, makings, sides, same_id}
+use Rattle.std.proofs.Common.{◌≡◌, drop}
+use Rattle.sb_model.specs.Sides.{made}
 use Rattle.sb_scan.proofs.making.made.Given as goal
 
 abbrev pub invariant-loop-entry : goal.invariant-loop-entry

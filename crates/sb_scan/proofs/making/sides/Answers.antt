@@ -1,4 +1,3 @@
-use Rattle.std.proofs.Common.{◌≡◌, map}
 use Rattle.sb_scan.proofs.Firsts.{sides_are}
 use Rattle.sb_scan.proofs.making.sides.Goals as goal
 

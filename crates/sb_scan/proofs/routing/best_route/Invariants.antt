@@ -1,6 +1,5 @@
-use Rattle.std.proofs.Common.{◌≡◌, drop, ◌++◌, ◌≤◌, ◌+◌, max, map}
-use Rattle.std.specs.Prelude.{find, flat_map, filter, fold, slice_get, None, option_map}
-use Rattle.std.specs.List.{list_any, last_or}
+use Rattle.std.proofs.Common.{◌≡◌, drop}
+use Rattle.std.specs.Prelude.{flat_map, filter, fold, option_map}
 use Rattle.sb_model.specs.Catalog.{definitions, route_def, routes}
 use Rattle.sb_model.specs.Routes.{route_fit, route_fits}
 use Rattle.sb_model.specs.Matches.{best_by, better}

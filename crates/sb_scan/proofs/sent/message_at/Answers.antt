@@ -1,4 +1,4 @@
-use Rattle.std.proofs.Common.{◌≡◌, sym, ◌∙◌, ap, ◌<◌, arith, rules}
+use Rattle.std.proofs.Common.{◌≡◌, sym, ◌∙◌, ap, arith}
 use Rattle.std.specs.Prelude.{slice_get, option_map, flat_map}
 use Rattle.sb_model.specs.Messages.{sends, final_sent, final_content, ends}
 use Rattle.sb_scan.specs.Seen.{content_seen}

@@ -1,4 +1,4 @@
-use Rattle.std.proofs.Common.{◌≡◌, ◌+◌, sym, ◌∙◌, ap, drop, arith}
+use Rattle.std.proofs.Common.{◌+◌, sym, ◌∙◌, ap, drop, arith}
 use Rattle.sb_model.specs.Messages.{sends}
 use Rattle.sb_scan.proofs.Looking.{nth_then, sent_step}
 use Rattle.sb_scan.proofs.sent.sent_at.Goals as goal

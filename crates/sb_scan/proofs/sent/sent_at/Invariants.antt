@@ -1,8 +1,6 @@
-use Rattle.std.proofs.Common.{◌≡◌, drop, ◌++◌, ◌≤◌, ◌+◌, max, map}
-use Rattle.std.specs.Prelude.{find, flat_map, fold, slice_get}
-use Rattle.std.specs.List.{list_any}
-use Rattle.sb_model.specs.Messages.{accepted, acked, acks, cleans, content_of_send, end_of_op, ends_side, final_content, final_sent, first_of, is_cleaned, is_closed_by_ack, is_ended, is_expired, sends}
-use Rattle.sb_scan.specs.Seen.{making_of, content_seen, nth_or_left}
+use Rattle.std.proofs.Common.{◌≡◌, drop}
+use Rattle.sb_model.specs.Messages.{sends}
+use Rattle.sb_scan.specs.Seen.{nth_or_left}
 use Rattle.sb_scan.proofs.sent.sent_at.Given as goal
 
 abbrev pub invariant-loop-entry : goal.invariant-loop-entry

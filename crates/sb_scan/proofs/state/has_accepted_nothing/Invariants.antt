@@ -1,8 +1,6 @@
-use Rattle.std.proofs.Common.{◌≡◌, drop, ◌++◌, ◌≤◌, ◌+◌, max, map}
-use Rattle.std.specs.Prelude.{find, flat_map, filter, fold, slice_get, None, option_map}
-use Rattle.std.specs.List.{list_any, last_or}
+use Rattle.std.proofs.Common.{◌≡◌, drop}
 use Rattle.sb_model.specs.Messages.{contents_accepted}
-use Rattle.sb_model.specs.States.{is_final, is_error, is_end_dialog, is_empty}
+use Rattle.sb_model.specs.States.{is_empty}
 use Rattle.sb_scan.proofs.state.has_accepted_nothing.Given as goal
 
 abbrev pub invariant-loop-entry : goal.invariant-loop-entry

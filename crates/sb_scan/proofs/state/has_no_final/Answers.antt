@@ -1,4 +1,4 @@
-use Rattle.std.proofs.Common.{◌≡◌, ap}
+use Rattle.std.proofs.Common.{ap}
 use Rattle.sb_model.specs.States.{is_empty}
 use Rattle.sb_scan.proofs.state.has_no_final.Goals as goal
 

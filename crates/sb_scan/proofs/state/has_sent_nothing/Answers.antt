@@ -1,4 +1,4 @@
-use Rattle.std.proofs.Common.{◌≡◌, ◌∙◌, ap}
+use Rattle.std.proofs.Common.{◌∙◌, ap}
 use Rattle.sb_model.specs.Messages.{sends}
 use Rattle.sb_scan.proofs.Looking.{is_past, first_is_past}
 use Rattle.sb_scan.proofs.state.has_sent_nothing.Goals as goal

@@ -1,4 +1,4 @@
-use Rattle.std.proofs.Common.{◌≡◌, ◌∙◌, ap, drop}
+use Rattle.std.proofs.Common.{◌∙◌, ap, drop}
 use Rattle.std.specs.Prelude.{is_none}
 use Rattle.sb_model.specs.Messages.{numbered}
 use Rattle.sb_model.specs.States.{is_empty}
