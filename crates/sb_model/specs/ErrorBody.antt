@@ -16,22 +16,20 @@ utf16_of c =
 abbrev pub utf16 : Bytes → List ℕ
 utf16 text = flat_map utf16_of (chars text)
 
--- a byte as XML writes it
-abbrev pub escaped_byte : ℕ → List ℕ
-escaped_byte b =
-    if b == 38 then codes "&amp;" else (if b == 60 then codes "&lt;" else (if b == 62 then codes "&gt;" else b ∷ []))
+-- a character as XML writes it
+abbrev pub escaped_character : ℕ → List ℕ
+escaped_character c =
+    if c == 38 then codes "&amp;" else (if c == 60 then codes "&lt;" else (if c == 62 then codes "&gt;" else c ∷ []))
 
-abbrev pub escaped : Bytes → Bytes
-escaped text = flat_map escaped_byte text
-
--- the body from the code as it is spelled
-abbrev pub error_text : Bytes → Bytes → Bytes
-error_text code text =
-    codes "<Error xmlns=\"http://schemas.microsoft.com/SQL/ServiceBroker/Error\"><Code>" ++ code ++ codes "</Code><Description>" ++ escaped text ++ codes "</Description></Error>"
+-- the characters of the XML text, from those of the code and of the description
+abbrev pub error_characters : List ℕ → List ℕ → List ℕ
+error_characters code text =
+    codes "<Error xmlns=\"http://schemas.microsoft.com/SQL/ServiceBroker/Error\"><Code>" ++ (code ++ (codes "</Code><Description>"
+    ++ (flat_map escaped_character text ++ codes "</Description></Error>")))
 
 abbrev pub error_body : ℕ → Bytes → Bytes
-error_body code text = utf16 (error_text (decimal code) text)
+error_body code text = flat_map utf16_of (error_characters (decimal code) (chars text))
 
 -- the body of the Error that a passed lifetime brings
 abbrev pub lifetime_body : Bytes
-lifetime_body = utf16 (error_text (codes "-1") (codes "The lifetime has passed"))
+lifetime_body = flat_map utf16_of (error_characters (codes "-1") (codes "The lifetime has passed"))

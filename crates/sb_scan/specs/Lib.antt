@@ -1,3 +1,4 @@
 pub mod Firsts
 pub mod Seen
+pub mod Shown
 pub mod Terms

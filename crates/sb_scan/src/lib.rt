@@ -5,6 +5,8 @@
 mod acceptance;
 mod catalog;
 mod group;
+mod item;
+mod level;
 mod making;
 mod queue;
 mod routing;
@@ -12,6 +14,7 @@ mod sent;
 mod state;
 #[cfg(test)]
 mod tests;
+mod xml;
 
 pub use acceptance::{Known, ack_verdict, instance_id, makes_side, receiver, verdict, verdict_by};
 pub use catalog::{
@@ -19,6 +22,8 @@ pub use catalog::{
     is_default, is_on, may_be_sent_by, queue_is_on, sender_of, service_queue,
 };
 pub use group::{group_of, last_moved};
+pub use item::{SeenItem, Source, is_taken, item_in, items, waiting, waits_at};
+pub use level::{level_made, level_of};
 pub use making::{MadeSide, begun, begun_among, has_side, made, made_in, partner, side_of, sides};
 pub use queue::{header_of, own_end, queue_of};
 pub use routing::{SeenRoute, destination, far_service, route};
@@ -27,3 +32,4 @@ pub use sent::{
     is_closed_by_ack, is_ended, is_expired, message_at, numbered, sends, sent_at, sent_by,
 };
 pub use state::{has_accepted_final, is_done, is_final, may_end, may_send, state_of};
+pub use xml::{error_body, lifetime_body};

@@ -1,0 +1,10 @@
+use Rattle.std.proofs.Common.{◌≡◌, ℕ, drop, take, ◌++◌, ◌≤◌, ◌<◌, ◌+◌, ◌==◌, ◌||◌, false, max, map, length, get_or, [], ◌∷◌}
+use Rattle.std.specs.Prelude.{flat_map, filter, fold, None, option_map}
+use Rattle.std.specs.List.{list_any, All}
+use Rattle.sb_model.specs.Sides.{made_by, made_by_op, makings, ops_of, sides}
+use Rattle.sb_model.specs.Instance.{groups_moved, next_handle_of, next_tx_of, own_low, tx_of}
+use Rattle.sb_instance.specs.Counters.{ids_made}
+use Rattle.sb_instance.proofs.counters.next_handle.Given as goal
+
+abbrev pub invariant-loop-entry : goal.invariant-loop-entry
+invariant-loop-entry l = fold max l.greatest (map (own_low l.who) (flat_map groups_moved (ops_of (drop l.entry-index l.log)))) ≡ fold max 0 (map (own_low l.who) (flat_map ids_made (makings l.log) ++ flat_map groups_moved (ops_of l.log)))

@@ -1,0 +1,11 @@
+//! One instance of the broker in memory: its log, and what its statements answer.
+#![tactic(auto)]
+
+mod counters;
+mod instance;
+mod sending;
+mod stopped;
+#[cfg(test)]
+mod tests;
+
+pub use instance::Instance;

@@ -1,0 +1,12 @@
+use Rattle.std.proofs.Common.{◌≡◌, drop, ◌++◌, ◌≤◌, ◌+◌, ◌==◌, max, map}
+use Rattle.std.specs.Prelude.{find, flat_map, filter, fold, slice_get, None, option_map, option_copied, chars}
+use Rattle.std.specs.List.{list_any, last_or}
+use Rattle.sb_model.specs.Items.{is_taken, items, items_from, taken_by, waiting, waits_in}
+use Rattle.sb_scan.specs.Shown.{item_seen}
+use Rattle.sb_scan.proofs.item.items.Given as goal
+
+abbrev pub invariant-loop-entry : goal.invariant-loop-entry
+invariant-loop-entry l = record {
+  few : l.number ≤ l.entry-index + 1;
+  rest : map item_seen l.found.items ++ items_from l.number (drop l.entry-index l.log) ≡ items l.log;
+}
