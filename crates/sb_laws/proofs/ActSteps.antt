@@ -39,7 +39,7 @@ use Rattle.sb_laws.proofs.Opens.{IsCounted, LogOk, IsOpenOk, LiveOk}
 use Rattle.sb_laws.proofs.PlanCases.{plan_fine, IsFine}
 use Rattle.sb_laws.proofs.Parts.{PartOk, log_ok, find_again}
 use Rattle.sb_laws.proofs.Steps.{view_is, view_ok, view_counted, view_none, start_free}
-use Rattle.sb_laws.proofs.Undisked.{is_disk, Sound, plan_sound, NoDisk, or_else_sound, define_sound, room_sound}
+use Rattle.sb_laws.proofs.Undisked.{plain_never_waits, is_disk, Sound, plan_sound, NoDisk, or_else_sound, define_sound, room_sound}
 use Rattle.sb_laws.proofs.Acts.{Held, Holds, ops_open, Effect, IsNoTxn, effect_none}
 use Rattle.sb_laws.proofs.ActForms.{act, ends_of, any_append, held_waiting, open_waiting, open_pushed, effect_falls, effect_commit_falls, effect_ends, effect_planned, effect_once, effect_once_falls, effect_started}
 
@@ -64,7 +64,7 @@ falls w p own = ap all_end own
 
 -- ---- an append: nothing to write, refused, written or failed
 
-append_is : (C : Done → Type 0) (luck : Luck) (p after : Part) (es : List Entry) (told : Answer) → (es ≡ [] → C (record { answer = told; added = []; part = after })) →
+pub append_is : (C : Done → Type 0) (luck : Luck) (p after : Part) (es : List Entry) (told : Answer) → (es ≡ [] → C (record { answer = told; added = []; part = after })) →
     ((r : Refusal) → (es ≡ [] → ⊥) → no_room p es ≡ Some r → C (refused p r)) → C (record { answer = told; added = es; part = grown after es }) →
     C (record { answer = answer.Refused (refusal.DiskFailed p.who) None; added = []; part = down_with p es }) → C (append luck p es told after)
 append_is C luck p after [] told a b c d = a refl
@@ -380,7 +380,7 @@ module _ (w : World) (p : Part) (own : part w p.who ≡ p) (h : PartOk p) (room 
     reader_planned_effect : (req : Request) → IsAsked w p req → (luck : Luck) (r : Planned) → plan (ask p o.tx w.moment) req ≡ r → ByReader req (reader_planned luck p o r)
     reader_planned_effect req asked luck (Err k) e = refused_effect req luck k (subst Sound e (plan_sound (ask p o.tx w.moment) req))
     reader_planned_effect req asked luck (Ok planned) e =
-        subst (λ l. Effect p (after_plan p o.tx planned) (l ++ []) []) (sym (ap (λ b. cond b [] (open_acts w p req o)) (subst Sound e (plan_sound (ask p o.tx w.moment) req)) ∙ asked.in_open_is o ∙ ap (act_of p.who o.tx false) e))
+        subst (λ l. Effect p (after_plan p o.tx planned) (l ++ []) []) (sym (ap (λ b. cond b [] (open_acts w p req o)) (plain_never_waits planned.reply (subst Sound e (plan_sound (ask p o.tx w.moment) req))) ∙ asked.in_open_is o ∙ ap (act_of p.who o.tx false) e))
         (planned_effect q o found req planned e)
 
     reader_commit_effect : (luck : Luck) (r : Option Refusal) → commit_refusal p o ≡ r → ByReader request.Commit (reader_commit luck p o r)

@@ -143,7 +143,7 @@ service_more log more name e =
     ∙ ap (λ defs. is_some (find (λ def. same_name def.name name) defs)) (flat_map-append service_def (definitions log) (definitions more))
     ∙ found_more (λ def. same_name def.name name) (flat_map service_def (definitions log)) (flat_map service_def (definitions more)) e
 
-queue_view : (log : List Entry) (tx : ℕ) (ops : List Op) (q : Bytes) → is_some (find_queue (with_ops log tx ops) q) ≡ is_some (find_queue log q)
+pub queue_view : (log : List Entry) (tx : ℕ) (ops : List Op) (q : Bytes) → is_some (find_queue (with_ops log tx ops) q) ≡ is_some (find_queue log q)
 queue_view log tx ops q = ap (λ ds. is_some (find (λ def. same_name def.name q) (flat_map queue_def ds))) (definitions_view log tx ops)
 
 pub service_view : (log : List Entry) (tx : ℕ) (ops : List Op) (name : Bytes) → is_some (find_service (with_ops log tx ops) name) ≡ is_some (find_service log name)

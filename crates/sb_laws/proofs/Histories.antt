@@ -29,31 +29,31 @@ StepIs w s r = Moves w r (step_acts w s) ⊎ Reopens w r (step_acts w s)
 step_is : (w : World) (s : Step) (r : Stepped) → WorldOk w → IsRoomy w → outcome w s ≡ Some r → r.answer ≡ s.answer → StepIs w s r
 step_is w s r h roomy e g = subst (λ a. Moves w r (acts w s.who s.event a ++ failure_ends w (disk_failed_at a)) ⊎ Reopens w r (acts w s.who s.event a ++ failure_ends w (disk_failed_at a))) g (step_moves w h roomy s.who s.event s.answer r e)
 
-same_is : (x y : Who) → same_who x y ≡ true → x ≡ y
+pub same_is : (x y : Who) → same_who x y ≡ true → x ≡ y
 same_is A A e = refl
 same_is B B e = refl
 same_is A B e = cc
 same_is B A e = cc
 
-other_way : (x y : Who) → same_who x y ≡ false → same_who y x ≡ false
+pub other_way : (x y : Who) → same_who x y ≡ false → same_who y x ≡ false
 other_way A A e = cc
 other_way B B e = cc
 other_way A B e = refl
 other_way B A e = refl
 
 -- a roomy state of a history that is short, and the next one
-record IsRun (top : ℕ) (w : World) (steps : List Step) : Type 0 where
-  high : 2 ^ 62 ≤ top
-  short : top + 4 * length steps + 4 < 2 ^ 64
-  low : AreBelow top w
-  ok : WorldOk w
-  legal : Legal w steps
-  fresh : StaysFresh w steps
+pub record IsRun (top : ℕ) (w : World) (steps : List Step) : Type 0 where
+  pub high : 2 ^ 62 ≤ top
+  pub short : top + 4 * length steps + 4 < 2 ^ 64
+  pub low : AreBelow top w
+  pub ok : WorldOk w
+  pub legal : Legal w steps
+  pub fresh : StaysFresh w steps
 
-run_roomy : (top : ℕ) (w : World) (s : Step) (steps : List Step) → IsRun top w (s ∷ steps) → IsRoomy w
+pub run_roomy : (top : ℕ) (w : World) (s : Step) (steps : List Step) → IsRun top w (s ∷ steps) → IsRoomy w
 run_roomy top w s steps run = record { room = λ x. let r = run.low x in record { handles = omega (arith, r.0, run.short); txs = omega (arith, r.1, run.short) }; fresh = run.fresh.0 }
 
-run_next : (top : ℕ) (w : World) (s : Step) (steps : List Step) → IsRun top w (s ∷ steps) → IsRun (top + 4) (next w s) steps
+pub run_next : (top : ℕ) (w : World) (s : Step) (steps : List Step) → IsRun top w (s ∷ steps) → IsRun (top + 4) (next w s) steps
 run_next top w s steps run =
     let k : Keeps w (next w s) = next_keeps w s (outcome w s) refl run.legal.0 run.ok (run_roomy top w s steps run) in
     record { high = let a = run.high in omega (arith, a); short = let a = run.short in omega (arith, a); low = k.rise top run.high run.low; ok = k.ok; legal = run.legal.1; fresh = run.fresh.1 }
@@ -219,7 +219,7 @@ commits_whole top w before (s ∷ steps) run given = by_outcome (outcome w s) re
 
 module _ (log_a log_b : List Entry) (end_a end_b : Option ℕ) (steps : List Step) (h : StartsLinked log_a log_b) (short : length steps ≤ 2 ^ 60) (legal : Legal (first_world log_a end_a log_b end_b) steps)
     (fresh : StaysFresh (first_world log_a end_a log_b end_b) steps) where
-  first_run : IsRun (2 ^ 62) (first_world log_a end_a log_b end_b) steps
+  pub first_run : IsRun (2 ^ 62) (first_world log_a end_a log_b end_b) steps
   first_run = record { high = omega arith; short = omega (arith, short); low = start_below log_a log_b end_a end_b h; ok = start_ok log_a log_b end_a end_b h; legal = legal; fresh = fresh }
 
   pub alone_along : HoldsGroupsAlone (first_world log_a end_a log_b end_b) steps

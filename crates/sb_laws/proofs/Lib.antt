@@ -15,12 +15,14 @@ pub mod Defines
 pub mod Opens
 pub mod Plans
 pub mod PlanCases
+pub mod Counts
 pub mod Undisked
 pub mod Acts
 pub mod ActForms
 pub mod Parts
 pub mod Steps
 pub mod ActSteps
+pub mod CountSteps
 pub mod Deliveries
 pub mod Worlds
 pub mod Delivery
@@ -28,9 +30,9 @@ pub mod ActWorlds
 pub mod Lost
 pub mod Starts
 pub mod Histories
+pub mod CountWorlds
 pub mod Low
 pub mod PlanForms
 pub mod LowPlans
 pub mod LowSteps
 pub mod LowWorlds
-pub mod Alone

@@ -1,4 +1,4 @@
--- No plan, definition or full journal answers that a disk failed, and no plan answers that it waits.
+-- No plan, definition or full journal answers that a disk failed, and no plan replies that it waits or rolled back.
 use Rattle.std.proofs.Common.{◌≡◌, ℕ, Bool, true, false, List, [], ◌∷◌, ◌++◌, ◌+◌, Option, Some, None, Ok, Err, refl, cond, map}
 use Rattle.std.specs.Prelude.{ℤ, ◌+ℤ◌, ◌-ℤ◌, ⊤, not, ◌&&◌, ◌||◌, option_map, option_and_then, unwrap_or, nat_lt, nat_le, nat_abs, is_some, is_none, length, find, sum_by}
 use Rattle.std.specs.List.{list_any, AllByRecursion}
@@ -19,6 +19,9 @@ use Rattle.sb_log.specs.declared.requests.NumberChange.{NumberChange}
 use Rattle.sb_log.specs.declared.requests.NumberChange.TheVariants as change
 use Rattle.sb_log.specs.declared.requests.Relation.{Relation}
 use Rattle.sb_log.specs.declared.requests.Relation.TheVariants as relation
+use Rattle.sb_log.specs.declared.requests.Reply.{Reply}
+use Rattle.sb_log.specs.declared.requests.Reply.TheVariants as reply
+use Rattle.sb_model.specs.Poison.{rolled_back_by}
 use Rattle.sb_log.specs.declared.requests.Request.{Request}
 use Rattle.sb_log.specs.declared.requests.Request.TheVariants as request
 use Rattle.sb_log.specs.declared.requests.Row.{Row}
@@ -44,9 +47,25 @@ abbrev pub is_disk : Refusal → Bool
 is_disk (refusal.DiskFailed x) = true
 is_disk _ = false
 
+-- a reply that neither waits nor rolls back
+abbrev pub is_plain : Reply → Bool
+is_plain (reply.Waiting on) = false
+is_plain (reply.RolledBack tx off) = false
+is_plain _ = true
+
 abbrev pub Sound : Planned → Type 0
 Sound (Err r) = is_disk r ≡ false
-Sound (Ok p) = is_waiting (answer.Replied p.reply) ≡ false
+Sound (Ok p) = is_plain p.reply ≡ true
+
+pub plain_never_waits : (r : Reply) → is_plain r ≡ true → is_waiting (answer.Replied r) ≡ false
+plain_never_waits (reply.Waiting on) e = cc
+plain_never_waits (reply.RolledBack tx off) e = cc
+plain_never_waits r e = refl
+
+pub plain_never_undoes : (r : Reply) → is_plain r ≡ true → rolled_back_by (answer.Replied r) ≡ None
+plain_never_undoes (reply.Waiting on) e = cc
+plain_never_undoes (reply.RolledBack tx off) e = cc
+plain_never_undoes r e = refl
 
 -- ---- chains
 

@@ -5,13 +5,16 @@
 //! its handles in a log, so the number of steps is bounded too.
 #![tactic(auto)]
 
-ghost use Rattle.std.specs.Prelude.{◌≡◌, ℕ, ◌≤◌, ◌^◌, length, List, [], ◌∷◌, ◌++◌, Option, IsTrue};
+ghost use Rattle.std.specs.Prelude.{◌≡◌, ℕ, ◌≤◌, ◌^◌, length, List, [], ◌∷◌, ◌++◌, Option, IsTrue, true};
 ghost use Rattle.sb_log.specs.declared.identifiers.Who.{Who};
 ghost use Rattle.sb_log.specs.declared.identifiers.Who.TheVariants.{A, B};
 ghost use Rattle.sb_model.specs.Logs.{WellFormed};
 ghost use Rattle.sb_log.specs.declared.entries.Entry.{Entry};
 ghost use Rattle.sb_log.specs.declared.steps.Step.{Step};
-ghost use Rattle.sb_model.specs.Steps.{World};
+ghost use Rattle.sb_model.specs.Sides.{Bytes};
+ghost use Rattle.sb_model.specs.Rollbacks.{count_of};
+ghost use Rattle.sb_model.specs.Poison.{rollbacks_in_a_row};
+ghost use Rattle.sb_model.specs.Steps.{World, part};
 ghost use Rattle.sb_model.specs.Histories.{Legal, Gives, outcome, after, first_world, at_most, kept, HoldsGroupsAlone, CommitsWhole};
 ghost use Rattle.sb_model.specs.Survival.{Survives};
 ghost use Rattle.sb_model.specs.Links.{DeliversInOrder, DeliversInTurn, StaysLinked, both};
@@ -127,4 +130,14 @@ pub fn keeps_items()
         → (x : Who) (log : List Entry)
         → Survives (at_most (after (first_world log_a end_a log_b end_b) steps) x) (kept (after (first_world log_a end_a log_b end_b) steps) x) log
         → KeepsItems log }
+{}
+
+/// An instance that is up counts what its history shows: the rolled-back transactions that received from the queue since the last commit
+/// that received from it, the last opening and the last turning on.
+pub fn counts_rollbacks()
+    ensures { (log_a log_b : List Entry) (end_a end_b : Option ℕ) (steps : List Step)
+        → StartsLinked log_a log_b → length steps ≤ 2 ^ 60
+        → Legal (first_world log_a end_a log_b end_b) steps → StaysFresh (first_world log_a end_a log_b end_b) steps
+        → (x : Who) (q : Bytes) → (part (after (first_world log_a end_a log_b end_b) steps) x).up ≡ true
+        → count_of (part (after (first_world log_a end_a log_b end_b) steps) x).counts q ≡ rollbacks_in_a_row q x (first_world log_a end_a log_b end_b) steps }
 {}
