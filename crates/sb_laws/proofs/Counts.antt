@@ -227,7 +227,7 @@ module _ (p : Part) (o : OpenTransaction) (q : Bytes) (apart : Pairwise AreNamed
           by_test false f rest = rest
 
   -- the queue is turned off exactly where it is disabled
-  turned_off : (def : QueueDef) → received_from q o ≡ true → find_queue p.log q ≡ Some def → list_any (turns_off_queue q) (map off_entry (filter (disables p) (queues_of p o))) ≡ disables p def
+  pub turned_off : (def : QueueDef) → received_from q o ≡ true → find_queue p.log q ≡ Some def → list_any (turns_off_queue q) (map off_entry (filter (disables p) (queues_of p o))) ≡ disables p def
   turned_off def e f = among (queues_of p o) (pairs_filter AreNamedApart receives (queues p.log) apart)
       (find_filtered (λ d. same_name d.name q) receives (queues p.log) (λ d g. subst (λ n. has_name (flat_map queue_taken o.ops) n ≡ true) (sym (names_same d.name q g)) e) ∙ f)
     where

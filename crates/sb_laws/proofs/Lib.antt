@@ -31,6 +31,8 @@ pub mod Lost
 pub mod Starts
 pub mod Histories
 pub mod CountWorlds
+pub mod FifthSteps
+pub mod Fifth
 pub mod Low
 pub mod PlanForms
 pub mod LowPlans

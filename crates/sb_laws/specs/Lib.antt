@@ -3,3 +3,4 @@ pub mod Starts
 pub mod Ready
 pub mod Fresh
 pub mod Kept
+pub mod Fifth

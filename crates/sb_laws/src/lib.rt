@@ -23,6 +23,7 @@ ghost use Rattle.sb_laws.specs.Starts.{StartsLinked, IsReady};
 ghost use Rattle.sb_laws.specs.Ready.{ready_log};
 ghost use Rattle.sb_laws.specs.Fresh.{is_under, SpellsLow};
 ghost use Rattle.sb_laws.specs.Kept.{KeepsOutgoing, KeepsItems};
+ghost use Rattle.sb_laws.specs.Fifth.{TurnsOffAtFive};
 
 /// A legal history goes on with each step whose answer is that of `step`.
 pub fn legal_history_grows()
@@ -140,4 +141,14 @@ pub fn counts_rollbacks()
         → Legal (first_world log_a end_a log_b end_b) steps → StaysFresh (first_world log_a end_a log_b end_b) steps
         → (x : Who) (q : Bytes) → (part (after (first_world log_a end_a log_b end_b) steps) x).up ≡ true
         → count_of (part (after (first_world log_a end_a log_b end_b) steps) x).counts q ≡ rollbacks_in_a_row q x (first_world log_a end_a log_b end_b) steps }
+{}
+
+/// Where poison message handling is on, a step that rolls back a transaction which received from the queue turns the queue off exactly where
+/// it is the fifth in a row by the history, the queue is on and the journal has room.
+pub fn fifth_rollback_turns_off()
+    ensures { (log_a log_b : List Entry) (end_a end_b : Option ℕ) (steps : List Step)
+        → StartsLinked log_a log_b → length steps ≤ 2 ^ 60
+        → Legal (first_world log_a end_a log_b end_b) steps → StaysFresh (first_world log_a end_a log_b end_b) steps
+        → (s : Step) → Gives (outcome (after (first_world log_a end_a log_b end_b) steps) s) s → (x : Who) (q : Bytes)
+        → TurnsOffAtFive (after (first_world log_a end_a log_b end_b) steps) x s q (rollbacks_in_a_row q x (first_world log_a end_a log_b end_b) steps) }
 {}
