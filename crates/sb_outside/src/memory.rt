@@ -19,11 +19,13 @@ pub struct MemSource {
 }
 
 impl MemSource {
-    ghost use Rattle.sb_outside.specs.Memory.{source_left, source_faults};
+    ghost use Rattle.sb_outside.specs.Memory.{source_calls, source_faults, source_left, source_listed};
 
     /// The calls with the numbers in `fail` will fail; calls are numbered from 1.
     pub fn new(bytes: Vec<u8>, fail: Vec<u64>) -> MemSource
         ensures left { source_left result ≡ bytes.items }
+        ensures listed { source_listed result ≡ fail.items }
+        ensures calls { source_calls result ≡ 0 }
         ensures faults { source_faults result ≡ 0 }
     {
         MemSource {
@@ -75,12 +77,14 @@ pub struct MemSink {
 }
 
 impl MemSink {
-    ghost use Rattle.sb_outside.specs.Memory.{sink_written, sink_faults};
+    ghost use Rattle.sb_outside.specs.Memory.{sink_calls, sink_faults, sink_listed, sink_written};
 
     /// The calls with the numbers in `fail` will fail; calls are numbered from 1. A call that
     /// finds no memory fails too.
     pub fn new(alloc: Global, fail: Vec<u64>) -> MemSink
         ensures written { sink_written result ≡ [] }
+        ensures listed { sink_listed result ≡ fail.items }
+        ensures calls { sink_calls result ≡ 0 }
         ensures faults { sink_faults result ≡ 0 }
     {
         MemSink {
