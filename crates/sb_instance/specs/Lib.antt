@@ -1,3 +1,4 @@
 pub mod Running
 pub mod Asked
 pub mod Counters
+pub mod Handing

@@ -8,12 +8,20 @@ ghost use Rattle.sb_log.specs.declared.requests.Request.TheVariants as request;
 ghost use Rattle.sb_model.specs.Instance.{opened};
 ghost use Rattle.sb_model.specs.Statements.{txn_entries};
 ghost use Rattle.sb_instance.specs.Asked.{Answers, is_first_path};
+ghost use Rattle.sb_log.specs.declared.steps.Verdict.TheVariants.{Next};
+ghost use Rattle.sb_model.specs.Sides.{sides};
+ghost use Rattle.sb_model.specs.Steps.{to_hand_over};
+ghost use Rattle.sb_instance.specs.Handing.{HandsOver, pending_by, taken_in};
 ghost use Rattle.sb_instance.specs.Running.{Commits, Refuses};
 
 use crate::counters::{next_handle, next_tx};
+use crate::handing::{Pending, accepted_entry, all_pending, carried, is_carried};
 use crate::sending::{check_send, kind_of};
 use crate::stopped::Stopped;
-use sb_log::{Body, Entry, Handle, Listed, Name, Op, Refusal, Reply, Request, SideId, Who};
+use sb_log::{
+    Body, Data, Entry, Handle, Listed, Name, Op, Refusal, Reply, Request, SideId, Verdict, Who,
+};
+use sb_scan::verdict;
 use std::alloc::{AllocError, Global};
 use std::marker::Model;
 
@@ -30,6 +38,10 @@ pub struct Instance {
 impl Model for Instance {
     ghost use Rattle.std.specs.Prelude.{◌<◌, ◌^◌};
     ghost use Rattle.sb_model.specs.Instance.{Part};
+    ghost use Rattle.sb_log.specs.declared.steps.Verdict.TheVariants.{Next};
+    ghost use Rattle.sb_model.specs.Sides.{sides};
+    ghost use Rattle.sb_model.specs.Steps.{to_hand_over};
+    ghost use Rattle.sb_instance.specs.Handing.{HandsOver, pending_by, taken_in};
     ghost use Rattle.sb_instance.specs.Running.{running};
 
     ghost Value = { Part };
@@ -144,5 +156,58 @@ impl Instance {
                 Ok(reply)
             }
         }
+    }
+
+    /// What is still to be handed over of each side whose partner is on this instance by
+    /// its route, in the order of the log.
+    pub fn pending(&self, alloc: Global) -> Result<Vec<Pending>, AllocError>
+        ensures { IfOk result (λ found. found.items ≡ flat_map (pending_by self.now) (sides self.now.log)) }
+    {
+        all_pending(alloc, self.who, self.log.as_slice())
+    }
+
+    /// Whether the side has a message with this number, and its partner is on this instance.
+    pub fn can_hand_over(&self, side: SideId, number: u64) -> bool
+        ensures { result ≡ is_some (to_hand_over self.now side number) }
+    {
+        is_carried(self.who, self.log.as_slice(), side, number)
+    }
+
+    /// Hands the message of the side with this number to the partner's side.
+    pub fn hand_over(&mut self, side: SideId, number: u64) -> Result<Verdict, AllocError>
+        requires { IsSome (to_hand_over self.old side number) }
+        ensures handed { IfOk result (λ given. HandsOver self.old (to_hand_over self.old side number) given self.new) }
+        ensures kept { OnErr result (self.new ≡ self.old) }
+    {
+        let Some(message) = carried(self.who, self.log.as_slice(), side, number)? else {
+            unreachable!();
+        };
+        let given = verdict(self.who, self.log.as_slice(), &message);
+        self.take_in(message, given)?;
+        Ok(given)
+    }
+
+    fn take_in(&mut self, message: Data, given: Verdict) -> Result<(), AllocError>
+        ensures taken { OnOk result (self.new ≡ taken_in self.old message given) }
+        ensures kept { OnErr result (self.new ≡ self.old) }
+    {
+        match given {
+            Verdict::New => {
+                self.accept(message)?;
+                self.next_handle = self.next_handle.wrapping_add(2);
+                Ok(())
+            }
+            Verdict::Next => self.accept(message),
+            _ => Ok(()),
+        }
+    }
+
+    fn accept(&mut self, message: Data) -> Result<(), AllocError>
+        ensures taken { OnOk result (self.new ≡ taken_in self.old message Next) }
+        ensures kept { OnErr result (self.new ≡ self.old) }
+    {
+        let entry = accepted_entry(self.who, self.log.as_slice(), self.next_handle, message)?;
+        self.log.push(entry)?;
+        Ok(())
     }
 }

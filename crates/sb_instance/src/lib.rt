@@ -2,10 +2,12 @@
 #![tactic(auto)]
 
 mod counters;
+mod handing;
 mod instance;
 mod sending;
 mod stopped;
 #[cfg(test)]
 mod tests;
 
+pub use handing::Pending;
 pub use instance::Instance;

@@ -3,12 +3,17 @@
 use crate::Instance;
 use sb_log::{
     Bytes, Ddl, Entry, Handle, Header, Listed, Name, Op, QueueDef, Refusal, Reply, Request,
-    ServiceDef,
+    ServiceDef, SideId, Verdict,
 };
 use std::alloc::Global;
 use std::test::Fail;
 
 const A: u128 = 0xa000_0000_0000_0000_0000_0000_0000_0000;
+
+const NEAR: SideId = SideId {
+    conversation: Handle(A + 1),
+    initiator: true,
+};
 
 fn queue(alloc: Global, name: &str) -> Result<Entry, Fail> {
     Ok(Entry::Defined(Ddl::Queue(QueueDef {
@@ -62,11 +67,14 @@ fn send(alloc: Global, handle: u128) -> Result<Request, Fail> {
 }
 
 #[test]
-fn a_message_is_sent(rt: HostRuntime) -> Result<(), Fail> {
+fn a_message_is_sent_handed_over(rt: HostRuntime) -> Result<(), Fail> {
     let alloc = rt.alloc();
     let mut it = dialog(alloc)?;
     assert!(rt; it.statement(1, 0, &send(alloc, 1)?)? == Reply::Done);
-    assert_eq!(rt; it.log().len(), 6);
+    assert_eq!(rt; it.pending(alloc)?.len(), 1);
+    assert!(rt; it.can_hand_over(NEAR, 1));
+    assert_eq!(rt; it.hand_over(NEAR, 1)?, Verdict::New);
+    assert_eq!(rt; it.log().len(), 7);
     Ok(())
 }
 
