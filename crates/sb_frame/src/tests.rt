@@ -1,7 +1,7 @@
 mod bytes;
 
 use super::*;
-use bytes::{acknowledgement, frames};
+use bytes::{FRAMES, acknowledgement, frame};
 use sb_log::{Ack, Frame, Handle, SideId};
 use std::alloc::Global;
 use std::process::Abort;
@@ -38,10 +38,11 @@ fn an_acknowledgement_is_spelled(rt: HostRuntime) -> Result<(), Fail> {
         closed: false,
         to: INSTANCE,
     };
-    let frame = Frame::Ack(ack);
-    let bytes = encode(rt.alloc(), &frame)?;
-    assert_eq!(rt; bytes.as_slice(), acknowledgement());
-    assert_eq!(rt; decode(rt.alloc(), acknowledgement())?, frame);
+    let value = Frame::Ack(ack);
+    let bytes = encode(rt.alloc(), &value)?;
+    let spelled = acknowledgement(rt.alloc())?;
+    assert_eq!(rt; bytes.as_slice(), spelled.as_slice());
+    assert_eq!(rt; decode(rt.alloc(), spelled.as_slice())?, value);
     Ok(())
 }
 
@@ -58,18 +59,18 @@ fn cut_field(end: usize) -> u64 {
 }
 
 #[test]
-fn a_cut_acknowledgement_names_its_field(rt: HostRuntime) {
-    let bytes = acknowledgement();
+fn a_cut_acknowledgement_names_its_field(rt: HostRuntime) -> Result<(), Fail> {
+    let bytes = acknowledgement(rt.alloc())?;
     assert_eq!(rt; bytes.len(), 46);
     for end in 0..bytes.len() {
         assert_eq!(rt; place(rt.alloc(), &bytes[..end]), Some(cut_field(end)));
     }
-    assert_eq!(rt; place(rt.alloc(), &[0x53, 0x42]), Some(2));
+    Ok(())
 }
 
 #[test]
 fn a_byte_left_over_is_named(rt: HostRuntime) -> Result<(), Fail> {
-    let mut longer = acknowledgement().to_vec(rt.alloc())?;
+    let mut longer = acknowledgement(rt.alloc())?;
     longer.push(0)?;
     assert_eq!(rt; place(rt.alloc(), longer.as_slice()), Some(46));
     Ok(())
@@ -77,18 +78,22 @@ fn a_byte_left_over_is_named(rt: HostRuntime) -> Result<(), Fail> {
 
 #[test]
 fn each_frame_there_and_back(rt: HostRuntime) -> Result<(), Fail> {
-    for bytes in frames() {
-        there_and_back(&rt, rt.alloc(), bytes)?;
+    for kind in 0..FRAMES {
+        let bytes = frame(rt.alloc(), kind)?;
+        there_and_back(&rt, rt.alloc(), bytes.as_slice())?;
     }
     Ok(())
 }
 
 #[test]
 fn each_byte_changed_is_seen(rt: HostRuntime) -> Result<(), Fail> {
-    for bytes in frames() {
+    for kind in 0..FRAMES {
+        let bytes = frame(rt.alloc(), kind)?;
         for i in 0..bytes.len() {
-            let mut changed = bytes.to_vec(rt.alloc())?;
-            changed[i] ^= 0x80;
+            let mut changed = bytes.clone()?;
+            if i < changed.len() {
+                changed[i] ^= 0x80;
+            }
             match decode(rt.alloc(), changed.as_slice()) {
                 Ok(_) => {
                     there_and_back(&rt, rt.alloc(), changed.as_slice())?;
@@ -112,7 +117,7 @@ fn faults_of_the_mark(rt: HostRuntime) -> Result<(), Fail> {
         (20, 3),
         (29, 2),
     ] {
-        let mut changed = acknowledgement().to_vec(rt.alloc())?;
+        let mut changed = acknowledgement(rt.alloc())?;
         if i < changed.len() {
             changed[i] = wrong;
         }
@@ -123,12 +128,10 @@ fn faults_of_the_mark(rt: HostRuntime) -> Result<(), Fail> {
 
 #[test]
 fn a_message_has_a_number(rt: HostRuntime) -> Result<(), Fail> {
-    for bytes in frames().iter().take(1) {
-        let mut changed = bytes.to_vec(rt.alloc())?;
-        if 28 < changed.len() {
-            changed[28] = 0;
-        }
-        assert_eq!(rt; place(rt.alloc(), changed.as_slice()), Some(21));
+    let mut changed = frame(rt.alloc(), 0)?;
+    if 28 < changed.len() {
+        changed[28] = 0;
     }
+    assert_eq!(rt; place(rt.alloc(), changed.as_slice()), Some(21));
     Ok(())
 }

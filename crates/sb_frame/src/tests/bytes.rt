@@ -1,47 +1,73 @@
 //! Bytes worked by hand from the table of frames.
 
-const ACK: [u8; 46] = [
-    83, 66, 1, 2, 160, 0, 0, 0, 0, 0, 0, 0, 0, 0, 0, 0, 0, 0, 0, 1, 1, 0, 0, 0, 0, 0, 0, 0, 3, 0,
-    160, 0, 0, 0, 0, 0, 0, 0, 0, 0, 0, 0, 0, 0, 0, 0,
-];
+use std::alloc::{AllocError, Global};
 
-const FRAMES: [&[u8]; 5] = [
-    &[
-        83, 66, 1, 1, 160, 0, 0, 0, 0, 0, 0, 0, 0, 0, 0, 0, 0, 0, 0, 1, 1, 0, 0, 0, 0, 0, 0, 0, 1,
-        0, 5, 66, 117, 121, 101, 114, 0, 6, 83, 101, 108, 108, 101, 114, 0, 6, 79, 114, 100, 101,
-        114, 115, 160, 0, 0, 0, 0, 0, 0, 0, 0, 0, 0, 0, 0, 0, 0, 0, 0, 0, 0, 0, 0, 0, 0, 0, 7, 1,
-        0, 6, 83, 117, 98, 109, 105, 116, 1, 0, 0, 0, 2, 120, 0,
-    ],
-    &[
-        83, 66, 1, 1, 160, 0, 0, 0, 0, 0, 0, 0, 0, 0, 0, 0, 0, 0, 0, 1, 2, 255, 255, 255, 255, 255,
-        255, 255, 255, 0, 6, 83, 101, 108, 108, 101, 114, 0, 5, 66, 117, 121, 101, 114, 0, 6, 79,
-        114, 100, 101, 114, 115, 176, 0, 0, 0, 0, 0, 0, 0, 0, 0, 0, 0, 0, 0, 0, 0, 1, 160, 0, 0, 0,
-        0, 0, 0, 0, 0, 0, 0, 0, 0, 0, 0, 0, 255, 255, 255, 255, 255, 255, 255, 255, 2,
-    ],
-    &[
-        83, 66, 1, 1, 160, 0, 0, 0, 0, 0, 0, 0, 0, 0, 0, 0, 0, 0, 0, 1, 1, 0, 0, 0, 0, 0, 0, 0, 2,
-        0, 5, 66, 117, 121, 101, 114, 0, 6, 83, 101, 108, 108, 101, 114, 0, 6, 79, 114, 100, 101,
-        114, 115, 160, 0, 0, 0, 0, 0, 0, 0, 0, 0, 0, 0, 0, 0, 0, 0, 0, 0, 0, 0, 0, 0, 0, 0, 7, 3,
-        0, 0, 0, 50, 0, 3, 97, 60, 98,
-    ],
-    &[
-        83, 66, 1, 1, 160, 0, 0, 0, 0, 0, 0, 0, 0, 0, 0, 0, 0, 0, 0, 1, 1, 0, 0, 0, 0, 0, 0, 0, 2,
-        0, 5, 66, 117, 121, 101, 114, 0, 6, 83, 101, 108, 108, 101, 114, 0, 6, 79, 114, 100, 101,
-        114, 115, 160, 0, 0, 0, 0, 0, 0, 0, 0, 0, 0, 0, 0, 0, 0, 0, 0, 0, 0, 0, 0, 0, 0, 0, 7, 1,
-        0, 4, 80, 105, 110, 103, 0,
-    ],
-    &[
-        83, 66, 1, 2, 160, 0, 0, 0, 0, 0, 0, 0, 0, 0, 0, 0, 0, 0, 0, 1, 2, 0, 0, 0, 0, 0, 0, 0, 0,
-        1, 176, 0, 0, 0, 0, 0, 0, 0, 0, 0, 0, 0, 0, 0, 0, 0,
-    ],
-];
+const ID: [u8; 16] = [0xa0, 0, 0, 0, 0, 0, 0, 0, 0, 0, 0, 0, 0, 0, 0, 1];
 
-/// An acknowledgement up to 3 of the messages of an initiator.
-pub fn acknowledgement() -> &'static [u8] {
-    &ACK
+const INSTANCE: [u8; 16] = [0xa0, 0, 0, 0, 0, 0, 0, 0, 0, 0, 0, 0, 0, 0, 0, 0];
+
+fn id() -> &'static [u8] {
+    &ID
 }
 
-/// Messages with each content, and another acknowledgement.
-pub fn frames() -> &'static [&'static [u8]] {
-    &FRAMES
+fn instance() -> &'static [u8] {
+    &INSTANCE
+}
+
+/// How many frames there are below.
+pub const FRAMES: u8 = 4;
+
+fn joined(alloc: Global, parts: &[&[u8]]) -> Result<Vec<u8>, AllocError> {
+    let mut bytes = Vec::new(alloc);
+    for part in parts {
+        bytes.extend_from_slice(part)?;
+    }
+    Ok(bytes)
+}
+
+/// An acknowledgement up to 3 of the messages of an initiator.
+pub fn acknowledgement(alloc: Global) -> Result<Vec<u8>, AllocError> {
+    let upto = [1, 0, 0, 0, 0, 0, 0, 0, 3, 0];
+    joined(alloc, &[&[0x53, 0x42, 1, 2], id(), &upto, instance()])
+}
+
+/// A message with each content, or another acknowledgement.
+pub fn frame(alloc: Global, kind: u8) -> Result<Vec<u8>, AllocError> {
+    let number = [1, 0, 0, 0, 0, 0, 0, 0, 1];
+    let services = [0, 1, b'B', 0, 1, b'S', 0, 1, b'C'];
+    let expires = [0, 0, 0, 0, 0, 0, 0, 7];
+    let head = joined(
+        alloc,
+        &[&[0x53, 0x42, 1, 1], id(), &number, &services, instance()],
+    )?;
+    match kind {
+        0 => joined(
+            alloc,
+            &[
+                head.as_slice(),
+                &[0],
+                &expires,
+                &[1, 0, 1, b'M', 1, 0, 0, 0, 1, 5],
+            ],
+        ),
+        1 => joined(alloc, &[head.as_slice(), &[1], id(), &expires, &[2]]),
+        2 => joined(
+            alloc,
+            &[
+                head.as_slice(),
+                &[0],
+                &expires,
+                &[3, 0, 0, 0, 50, 0, 1, b'a'],
+            ],
+        ),
+        _ => joined(
+            alloc,
+            &[
+                &[0x53, 0x42, 1, 2],
+                id(),
+                &[2, 0, 0, 0, 0, 0, 0, 0, 0, 1],
+                instance(),
+            ],
+        ),
+    }
 }
