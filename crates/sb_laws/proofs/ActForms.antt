@@ -20,6 +20,8 @@ use Rattle.sb_model.specs.Rollbacks.{without_open, released}
 use Rattle.sb_model.specs.Statements.{add_plan, with_plan, fresh_open, set_wait, txn_entries}
 use Rattle.sb_model.specs.Histories.{Act, mark, Given, with_act, nothing_given, given_after, IsWholeTransaction}
 use Rattle.sb_laws.proofs.Grow.{or_true_left, or_true_right, all_weaker}
+use Rattle.sb_laws.specs.Waits.{HasNoCircle}
+use Rattle.sb_laws.proofs.Circles.{no_circle_none, no_circle_without, no_circle_planned, no_circle_pushed}
 use Rattle.sb_laws.proofs.Opens.{AreApart, Pairwise}
 use Rattle.sb_laws.proofs.Acts.{who_self, AnyOf, Holds, Held, Through, Begins, so_far, ops_open, given_all, IsWholeBy, Effect, IsNoTxn, no_txns, given_one, not_shared, through_one}
 
@@ -289,6 +291,7 @@ ends_own x t g (h ∷ U) o p e = by_test (h.tx == t) refl e (λ f. ends_own x t 
 -- an instance goes down, with entries in doubt that are no transactions
 pub effect_falls : (p : Part) (es : List Entry) → AllByRecursion IsNoTxn es → Effect p (down_with p es) (ends_of p.who p.open_txns) []
 effect_falls p es none = record {
+  ranked = λ k. no_circle_none;
   on = ends_on p.who p.open_txns;
   kept = λ tx gs h. ends_through p.who tx gs p.open_txns (Held [] tx gs) h;
   begun = ends_begin p.who [] p.open_txns;
@@ -325,6 +328,7 @@ module _ (p : Part) (pairs : Pairwise AreApart p.open_txns) (o : OpenTransaction
   -- a commit whose write fails
   pub effect_commit_falls : (es : List Entry) → AllByRecursion IsNoTxn es ⊎ (es ≡ txn_entries o.tx o.ops) → Effect p (down_with p es) (act p.who o.tx [] [] true false ∷ ends_of p.who p.open_txns) []
   effect_commit_falls es which = record {
+    ranked = λ k. no_circle_none;
     on = (refl, ends_on x U);
     kept = λ tx gs h. through_one x tx gs (act x o.tx [] [] true false) (ends_of x U) (Held [] tx gs) refl (λ e. refl) (λ e. ends_through x tx gs U (Held [] tx gs) h);
     begun = (ends_through x o.tx [] U (Held [] o.tx []) (any_found (Holds o.tx []) (λ z. z.tx == o.tx) U o found (refl, λ g e. clash (sym e))), ends_begin x [] U);
@@ -356,6 +360,7 @@ module _ (p : Part) (pairs : Pairwise AreApart p.open_txns) (o : OpenTransaction
   pub effect_ends : (q : Part) (commits : Bool) (added : List Entry) → q.open_txns ≡ without_open p.open_txns o.tx → q.doubt ≡ [] → AllByRecursion IsNoTxn added ⊎ ((commits ≡ true) × (added ≡ txn_entries o.tx o.ops)) →
       Effect p q (act p.who o.tx [] [] commits true ∷ []) added
   effect_ends q commits added opens doubt which = record {
+    ranked = λ k. subst HasNoCircle (sym opens) (no_circle_without U o.tx k);
     on = (refl, tt);
     kept = λ tx gs h. through_one x tx gs (act x o.tx [] [] commits true) [] (Held q.open_txns tx gs) refl (λ e. refl)
         (λ e. subst (λ V. Held V tx gs) (sym opens) (held_without U o.tx tx gs (not_and (o.tx == tx) e) h));
@@ -388,6 +393,7 @@ module _ (p : Part) (pairs : Pairwise AreApart p.open_txns) (o : OpenTransaction
   pub effect_planned : (q : Part) (planned : Plan) → q.open_txns ≡ map (add_plan o.tx planned) p.open_txns → q.doubt ≡ p.doubt → p.doubt ≡ [] → AllByRecursion (λ g. is_free p.open_txns g o.tx ≡ true) planned.groups →
       Effect p q (act p.who o.tx planned.groups planned.ops false false ∷ []) []
   effect_planned q planned opens doubt none free = record {
+    ranked = λ k. subst HasNoCircle (sym opens) (no_circle_planned U o.tx planned k);
     on = (refl, tt);
     kept = λ tx gs h. through_one x tx gs (act x o.tx planned.groups planned.ops false false) [] (Held q.open_txns tx gs) refl
         (λ e. not_shared U tx gs (act x o.tx planned.groups planned.ops false false) free e h)
@@ -443,6 +449,7 @@ module _ (p : Part) (next : ℕ) (below : AllByRecursion (λ b. (b.tx == next) �
 
     pub effect_once : (q : Part) (added : List Entry) → q.open_txns ≡ p.open_txns → q.doubt ≡ [] → added ≡ txn_entries next planned.ops → Effect p q (act p.who next planned.groups planned.ops true true ∷ []) added
     effect_once q added opens doubt is = record {
+      ranked = λ k. subst HasNoCircle (sym opens) k;
       on = (refl, tt);
       kept = λ tx gs h. through_one y tx gs a [] (Held q.open_txns tx gs) refl (λ e. not_shared W tx gs a free e h) (λ e. subst (λ V. Held V tx gs) (sym opens) h);
       begun = (tt, tt);
@@ -453,6 +460,7 @@ module _ (p : Part) (next : ℕ) (below : AllByRecursion (λ b. (b.tx == next) �
 
     pub effect_once_falls : (q : Part) → q.open_txns ≡ [] → q.doubt ≡ txn_entries next planned.ops → Effect p q (act p.who next planned.groups planned.ops true true ∷ ends_of p.who p.open_txns) []
     effect_once_falls q opens doubt = record {
+      ranked = λ k. subst HasNoCircle (sym opens) no_circle_none;
       on = (refl, ends_on y W);
       kept = λ tx gs h. through_one y tx gs a (ends_of y W) (Held q.open_txns tx gs) refl (λ e. not_shared W tx gs a free e h) (λ e. ends_through y tx gs W (Held q.open_txns tx gs) h);
       begun = (tt, ends_begin y q.open_txns W);
@@ -466,6 +474,7 @@ module _ (p : Part) (next : ℕ) (below : AllByRecursion (λ b. (b.tx == next) �
   pub effect_started : (q : Part) (owner : Owner) (group : Handle) → q.open_txns ≡ p.open_txns ++ fresh_open owner next (group ∷ []) ∷ [] → q.doubt ≡ [] → is_free p.open_txns group next ≡ true →
       Effect p q (act p.who next (group ∷ []) [] false false ∷ []) []
   effect_started q owner group opens doubt free = record {
+    ranked = λ k. subst HasNoCircle (sym opens) (no_circle_pushed W (fresh_open owner next (group ∷ [])) refl k);
     on = (refl, tt);
     kept = λ tx gs h. through_one y tx gs (act y next (group ∷ []) [] false false) [] (Held q.open_txns tx gs) refl
         (λ e. not_shared W tx gs (act y next (group ∷ []) [] false false) (free, tt) e h) (λ e. subst (λ V. Held V tx gs) (sym opens) (any_append (Holds tx gs) W _ h));

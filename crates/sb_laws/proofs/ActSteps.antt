@@ -40,6 +40,9 @@ use Rattle.sb_laws.proofs.PlanCases.{plan_fine, IsFine}
 use Rattle.sb_laws.proofs.Parts.{PartOk, log_ok, find_again}
 use Rattle.sb_laws.proofs.Steps.{view_is, view_ok, view_counted, view_none, start_free}
 use Rattle.sb_laws.proofs.Undisked.{plain_never_waits, is_disk, Sound, plan_sound, NoDisk, or_else_sound, define_sound, room_sound}
+use Rattle.sb_laws.specs.Waits.{HasNoCircle}
+use Rattle.sb_laws.proofs.Circles.{waits_no_circle, no_circle_pushed}
+use Rattle.sb_model.specs.Statements.{chain}
 use Rattle.sb_laws.proofs.Acts.{Held, Holds, ops_open, Effect, IsNoTxn, effect_none}
 use Rattle.sb_laws.proofs.ActForms.{act, ends_of, any_append, held_waiting, open_waiting, open_pushed, effect_falls, effect_commit_falls, effect_ends, effect_planned, effect_once, effect_once_falls, effect_started}
 
@@ -109,15 +112,15 @@ owner_up (open_as.Reader n q) o r = by_test (has_name (flat_map queue_taken o.op
     by_test false = refl
 
 pub effect_stays : (p : Part) → Effect p p [] []
-effect_stays p = effect_none p p [] (λ tx gs h. h) (λ tx. refl) tt (inr refl)
+effect_stays p = effect_none p p [] (λ tx gs h. h) (λ k. k) (λ tx. refl) tt (inr refl)
 
 -- entries that are no transactions, from an instance whose open transactions stay
 pub quiet_effect : (w : World) (luck : Luck) (p after : Part) (es : List Entry) (told : Answer) → part w p.who ≡ p → disk_failed_at told ≡ None → after.open_txns ≡ p.open_txns → after.doubt ≡ p.doubt → AllByRecursion IsNoTxn es →
     Effect p (append luck p es told after).part (failing w (append luck p es told after).answer) (append luck p es told after).added
 quiet_effect w luck p after es told own fine opens doubt none = append_is (λ d. Effect p d.part (failing w d.answer) d.added) luck p after es told
-    (λ e. subst (λ l. Effect p after l []) (sym no_failure) (effect_none p after [] keep same tt (inr doubt)))
+    (λ e. subst (λ l. Effect p after l []) (sym no_failure) (effect_none p after [] keep rank same tt (inr doubt)))
     (λ r e f. subst (λ l. Effect p p l []) (sym (failing_none w r None (room_undisked p es r f))) (effect_stays p))
-    (subst (λ l. Effect p (grown after es) l es) (sym no_failure) (effect_none p (grown after es) es keep same none (inr doubt)))
+    (subst (λ l. Effect p (grown after es) l es) (sym no_failure) (effect_none p (grown after es) es keep rank same none (inr doubt)))
     (subst (λ l. Effect p (down_with p es) l []) (sym (falls w p own)) (effect_falls p es none))
   where
     no_failure : failing w told ≡ []
@@ -125,6 +128,9 @@ quiet_effect w luck p after es told own fine opens doubt none = append_is (λ d.
 
     keep : (tx : ℕ) (gs : List Handle) → Held p.open_txns tx gs → Held after.open_txns tx gs
     keep tx gs h = subst (λ V. Held V tx gs) (sym opens) h
+
+    rank : HasNoCircle p.open_txns → HasNoCircle after.open_txns
+    rank k = subst HasNoCircle (sym opens) k
 
     same : (tx : ℕ) → ops_open p.open_txns tx ≡ ops_open after.open_txns tx
     same tx = ap (λ V. ops_open V tx) (sym opens)
@@ -174,7 +180,7 @@ module _ (w : World) (p : Part) (own : part w p.who ≡ p) (h : PartOk p) (room 
   session_refused : (req : Request) (o : Option OpenTransaction) (q : Part) (r : Refusal) → q.open_txns ≡ U → q.doubt ≡ p.doubt → is_disk r ≡ false → BySession req o (refused q r)
   session_refused req o q r opens doubt e =
       subst (λ l. Effect p q l []) (sym (ap (λ l. l ++ failing w (answer.Refused r None)) (session_none req (answer.Refused r None) o (undisked r None e).0 refl) ∙ failing_none w r None e))
-      (effect_none p q [] (λ tx gs k. subst (λ V. Held V tx gs) (sym opens) k) (λ tx. ap (λ V. ops_open V tx) (sym opens)) tt (inr doubt))
+      (effect_none p q [] (λ tx gs k. subst (λ V. Held V tx gs) (sym opens) k) (λ k. subst HasNoCircle (sym opens) k) (λ tx. ap (λ V. ops_open V tx) (sym opens)) tt (inr doubt))
 
   none_twice : (a b : Bool) → cond a (let l : List Act = [] in l) (cond b [] []) ≡ []
   none_twice true b = refl
@@ -202,7 +208,7 @@ module _ (w : World) (p : Part) (own : part w p.who ≡ p) (h : PartOk p) (room 
 
   begin_effect : (session : ℕ) (o : Option OpenTransaction) → BySession request.Begin o (begin p session o)
   begin_effect session (Some o) = session_refused request.Begin (Some o) p (refusal.InTransaction o.tx) refl refl refl
-  begin_effect session None = effect_none p (begin p session None).part [] (λ tx gs k. any_append (Holds tx gs) U _ k) (λ tx. open_pushed U (fresh_open (open_as.Session session) p.next_tx []) tx refl) tt (inr refl)
+  begin_effect session None = effect_none p (begin p session None).part [] (λ tx gs k. any_append (Holds tx gs) U _ k) (no_circle_pushed U (fresh_open (open_as.Session session) p.next_tx []) refl) (λ tx. open_pushed U (fresh_open (open_as.Session session) p.next_tx []) tx refl) tt (inr refl)
 
   -- ---- a transaction that is found
 
@@ -368,13 +374,13 @@ module _ (w : World) (p : Part) (own : part w p.who ≡ p) (h : PartOk p) (room 
         by_commit true = inr refl
         by_commit false = inl refl
 
-    waits_effect : (req : Request) (luck : Luck) (on : ℕ) (c : Option (List ℕ)) → ByReader req (wait_or_deadlock luck p o on c)
-    waits_effect req luck on None = effect_none p (record p { open_txns = map (set_wait o.tx on) U }) [] (λ tx gs k. held_waiting U o.tx on tx gs k) (λ tx. open_waiting U o.tx on tx) tt (inr refl)
-    waits_effect req luck on (Some txs) = reader_rolls req luck (refusal.Deadlock (o.tx ∷ txs)) refl
+    waits_effect : (req : Request) (luck : Luck) (on : ℕ) (c : Option (List ℕ)) → chain U o.tx (o ∷ U) on ≡ c → ByReader req (wait_or_deadlock luck p o on c)
+    waits_effect req luck on None e = effect_none p (record p { open_txns = map (set_wait o.tx on) U }) [] (λ tx gs k. held_waiting U o.tx on tx gs k) (waits_no_circle U o.tx on o live.pairs e) (λ tx. open_waiting U o.tx on tx) tt (inr refl)
+    waits_effect req luck on (Some txs) e = reader_rolls req luck (refusal.Deadlock (o.tx ∷ txs)) refl
 
     refused_effect : (req : Request) (luck : Luck) (r : Refusal) → is_disk r ≡ false → ByReader req (reader_refused luck p o r)
-    refused_effect req luck (refusal.GroupHeld on) e = waits_effect req luck on _
-    refused_effect req luck (refusal.RowHeld on) e = waits_effect req luck on _
+    refused_effect req luck (refusal.GroupHeld on) e = waits_effect req luck on _ refl
+    refused_effect req luck (refusal.RowHeld on) e = waits_effect req luck on _ refl
     refused_effect req luck r e = reader_rolls req luck r e
 
     reader_planned_effect : (req : Request) → IsAsked w p req → (luck : Luck) (r : Planned) → plan (ask p o.tx w.moment) req ≡ r → ByReader req (reader_planned luck p o r)

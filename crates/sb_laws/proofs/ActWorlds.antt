@@ -49,6 +49,7 @@ use Rattle.sb_laws.specs.Worlds.{IsRoomy}
 use Rattle.sb_laws.proofs.Steps.{runnable_open, open_is_up}
 use Rattle.sb_laws.proofs.Worlds.{WorldOk}
 use Rattle.sb_laws.proofs.Undisked.{is_disk}
+use Rattle.sb_laws.specs.Waits.{HasNoCircle}
 use Rattle.sb_laws.proofs.Acts.{Held, ops_open, Effect, IsNoTxn, effect_none}
 use Rattle.sb_laws.proofs.ActForms.{ends_of, effect_falls}
 use Rattle.sb_laws.proofs.ActSteps.{failing, failing_none, session_quiet, effect_stays, quiet_effect, session_effect, reader_effect, words_effect, start_effect}
@@ -89,7 +90,7 @@ part_other w A B q e = refl
 part_other w B A q e = refl
 
 effect_alike : (p q : Part) → Alike p q → Effect p q [] []
-effect_alike p q a = effect_none p q [] (λ tx gs h. subst (λ V. Held V tx gs) (sym a.0) h) (λ tx. ap (λ V. ops_open V tx) (sym a.0)) tt (inr a.1)
+effect_alike p q a = effect_none p q [] (λ tx gs h. subst (λ V. Held V tx gs) (sym a.0) h) (λ k. subst HasNoCircle (sym a.0) k) (λ tx. ap (λ V. ops_open V tx) (sym a.0)) tt (inr a.1)
 
 -- ---- deliveries and timers
 

@@ -14,6 +14,7 @@ use Rattle.sb_model.specs.Sides.{same_id, same_who}
 use Rattle.sb_model.specs.Transactions.{OpenTransaction, find_open, is_free}
 use Rattle.sb_model.specs.Instance.{Part}
 use Rattle.sb_model.specs.Histories.{Act, is_of_txn, shares, HoldsAlone, AllHoldAlone, Given, with_act, nothing_given, given_after, IsWholeTransaction}
+use Rattle.sb_laws.specs.Waits.{HasNoCircle}
 use Rattle.sb_laws.proofs.Grow.{or_false}
 use Rattle.sb_laws.proofs.Opens.{free_of_others}
 
@@ -102,6 +103,7 @@ pub record Effect (p q : Part) (acts : List Act) (added : List Entry) : Type 0 w
   pub given : (tx : ℕ) (g : Given) → so_far g ≡ ops_open p.open_txns tx → so_far (given_all p.who tx g acts) ≡ ops_open q.open_txns tx
   pub whole : AllByRecursion (IsWholeBy p.who p.open_txns acts) added
   pub doubt : AllByRecursion (IsWholeBy p.who p.open_txns acts) q.doubt ⊎ ((q.doubt ≡ p.doubt) × (acts ≡ []))
+  pub ranked : HasNoCircle p.open_txns → HasNoCircle q.open_txns
 
 abbrev pub IsNoTxn : Entry → Type 0
 IsNoTxn (Txn tx ops) = ⊥
@@ -119,9 +121,10 @@ no_txns x opens acts (QueueSet a b ∷ es) h = (tt, no_txns x opens acts es h.1)
 
 -- ---- no act
 
-pub effect_none : (p q : Part) (added : List Entry) → ((tx : ℕ) (gs : List Handle) → Held p.open_txns tx gs → Held q.open_txns tx gs) → ((tx : ℕ) → ops_open p.open_txns tx ≡ ops_open q.open_txns tx) →
+pub effect_none : (p q : Part) (added : List Entry) → ((tx : ℕ) (gs : List Handle) → Held p.open_txns tx gs → Held q.open_txns tx gs) → (HasNoCircle p.open_txns → HasNoCircle q.open_txns) → ((tx : ℕ) → ops_open p.open_txns tx ≡ ops_open q.open_txns tx) →
     AllByRecursion IsNoTxn added → AllByRecursion IsNoTxn q.doubt ⊎ (q.doubt ≡ p.doubt) → Effect p q [] added
-effect_none p q added keep same none d = record {
+effect_none p q added keep rank same none d = record {
+  ranked = rank;
   on = tt;
   kept = keep;
   begun = tt;

@@ -1,4 +1,4 @@
--- Along every legal history groups are held alone, and committed transactions are whole.
+-- Along every legal history groups are held alone, waits lead in no circle, and committed transactions are whole.
 use Rattle.std.proofs.Common.{◌≡◌, ℕ, Bool, true, false, List, [], ◌∷◌, ◌++◌, ◌+◌, ◌*◌, ◌^◌, ◌≤◌, ◌<◌, Option, Some, None, refl, sym, ◌∙◌, ap, subst, length, arith, cond, inl, inr, append-nil}
 use Rattle.std.specs.Prelude.{◌⊎◌, ◌==◌, ◌&&◌}
 use Rattle.std.specs.List.{AllByRecursion}
@@ -12,6 +12,9 @@ use Rattle.sb_log.specs.declared.steps.Step.{Step}
 use Rattle.sb_model.specs.Sides.{same_who}
 use Rattle.sb_model.specs.Steps.{World, Stepped, part}
 use Rattle.sb_model.specs.Histories.{Legal, Gives, outcome, world_of, next, first_world, Act, acts, step_acts, failure_ends, disk_failed_at, history_acts, HoldsAlone, AllHoldAlone, HoldsGroupsAlone, Given, nothing_given, with_act, given_after, given_by, IsWholeTransaction, IsWholeEntry, AddedWhole, CommitsWholeAfter, CommitsWhole}
+use Rattle.sb_model.specs.Histories as histories
+use Rattle.sb_laws.specs.Waits.{HasNoCircle, WaitsInNoCircle}
+use Rattle.sb_laws.proofs.Circles.{no_circle_none}
 use Rattle.sb_laws.specs.Worlds.{IsRoomy, StaysFresh}
 use Rattle.sb_laws.specs.Starts.{StartsLinked}
 use Rattle.sb_laws.proofs.Grow.{all_weaker}
@@ -21,6 +24,10 @@ use Rattle.sb_laws.proofs.Delivery.{next_keeps}
 use Rattle.sb_laws.proofs.Starts.{start_ok, start_below}
 use Rattle.sb_laws.proofs.Acts.{Held, through_join, others_through, begins_join, so_far, ops_open, given_all, IsWholeBy}
 use Rattle.sb_laws.proofs.ActWorlds.{Moves, Reopens, step_moves}
+
+-- the state after a history; `after` is a name of this file
+abbrev pub history_end : World → List Step → World
+history_end w steps = histories.after w steps
 
 -- what a step of a legal history is
 abbrev StepIs : World → Step → Stepped → Type 0
@@ -106,6 +113,28 @@ holds_alone top w (s ∷ steps) run = by_outcome (outcome w s) refl run.legal.0 
     by_outcome None e g f rest = absurd g
     by_outcome (Some r) e g f rest = step_begins w r (step_acts w s) (history_acts (next w s) steps) run.ok (step_is w s r run.ok (run_roomy top w s steps run) e g)
         (λ x tx gs k. f x tx gs (subst (λ o. Held (part (world_of w o) x).open_txns tx gs) (sym e) k)) rest
+
+-- ---- waits lead in no circle
+
+step_no_circle : (w : World) (r : Stepped) (done : List Act) → Moves w r done ⊎ Reopens w r done → WaitsInNoCircle w → WaitsInNoCircle r.world
+step_no_circle w r done (inl m) h x = by_who (same_who x m.x) refl
+  where
+    by_who : (c : Bool) → same_who x m.x ≡ c → HasNoCircle (part r.world x).open_txns
+    by_who true e = subst (λ y. HasNoCircle (part r.world y).open_txns) (sym (same_is x m.x e)) (m.effect.ranked (h m.x))
+    by_who false e = subst HasNoCircle (sym (m.others x e).0) (h x)
+step_no_circle w r done (inr m) h x = by_who (same_who x m.x) refl
+  where
+    by_who : (c : Bool) → same_who x m.x ≡ c → HasNoCircle (part r.world x).open_txns
+    by_who true e = subst (λ y. HasNoCircle (part r.world y).open_txns) (sym (same_is x m.x e)) (subst HasNoCircle (sym m.opens) no_circle_none)
+    by_who false e = subst HasNoCircle (sym (m.others x e).0) (h x)
+
+no_circle : (top : ℕ) (w : World) (steps : List Step) → IsRun top w steps → WaitsInNoCircle w → WaitsInNoCircle (history_end w steps)
+no_circle top w [] run h = h
+no_circle top w (s ∷ steps) run h = by_outcome (outcome w s) refl run.legal.0 (λ k. no_circle (top + 4) (next w s) steps (run_next top w s steps run) k)
+  where
+    by_outcome : (o : Option Stepped) → outcome w s ≡ o → Gives o s → (WaitsInNoCircle (next w s) → WaitsInNoCircle (history_end (next w s) steps)) → WaitsInNoCircle (history_end (next w s) steps)
+    by_outcome None e g rest = absurd g
+    by_outcome (Some r) e g rest = rest (subst (λ o. WaitsInNoCircle (world_of w o)) (sym e) (step_no_circle w r (step_acts w s) (step_is w s r run.ok (run_roomy top w s steps run) e g) h))
 
 -- ---- transactions are whole
 
@@ -238,3 +267,10 @@ module _ (log_a log_b : List Entry) (end_a end_b : Option ℕ) (steps : List Ste
 
   pub whole_along : CommitsWhole (first_world log_a end_a log_b end_b) steps
   whole_along = commits_whole (2 ^ 62) (first_world log_a end_a log_b end_b) [] steps first_run first_given
+
+  pub no_circle_along : WaitsInNoCircle (history_end (first_world log_a end_a log_b end_b) steps)
+  no_circle_along = no_circle (2 ^ 62) (first_world log_a end_a log_b end_b) steps first_run none
+    where
+      none : (x : Who) → HasNoCircle (part (first_world log_a end_a log_b end_b) x).open_txns
+      none A = no_circle_none
+      none B = no_circle_none

@@ -17,6 +17,7 @@ pub mod Plans
 pub mod PlanCases
 pub mod Counts
 pub mod Undisked
+pub mod Circles
 pub mod Acts
 pub mod ActForms
 pub mod Parts

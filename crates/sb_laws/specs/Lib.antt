@@ -4,3 +4,4 @@ pub mod Ready
 pub mod Fresh
 pub mod Kept
 pub mod Fifth
+pub mod Waits

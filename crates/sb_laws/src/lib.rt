@@ -24,6 +24,7 @@ ghost use Rattle.sb_laws.specs.Ready.{ready_log};
 ghost use Rattle.sb_laws.specs.Fresh.{is_under, SpellsLow};
 ghost use Rattle.sb_laws.specs.Kept.{KeepsOutgoing, KeepsItems};
 ghost use Rattle.sb_laws.specs.Fifth.{TurnsOffAtFive};
+ghost use Rattle.sb_laws.specs.Waits.{WaitsInNoCircle};
 
 /// A legal history goes on with each step whose answer is that of `step`.
 pub fn legal_history_grows()
@@ -151,4 +152,12 @@ pub fn fifth_rollback_turns_off()
         → Legal (first_world log_a end_a log_b end_b) steps → StaysFresh (first_world log_a end_a log_b end_b) steps
         → (s : Step) → Gives (outcome (after (first_world log_a end_a log_b end_b) steps) s) s → (x : Who) (q : Bytes)
         → TurnsOffAtFive (after (first_world log_a end_a log_b end_b) steps) x s q (rollbacks_in_a_row q x (first_world log_a end_a log_b end_b) steps) }
+{}
+
+/// After every legal history from linked logs the waits of readers lead in no circle.
+pub fn waits_in_no_circle()
+    ensures { (log_a log_b : List Entry) (end_a end_b : Option ℕ) (steps : List Step)
+        → StartsLinked log_a log_b → length steps ≤ 2 ^ 60
+        → Legal (first_world log_a end_a log_b end_b) steps → StaysFresh (first_world log_a end_a log_b end_b) steps
+        → WaitsInNoCircle (after (first_world log_a end_a log_b end_b) steps) }
 {}
