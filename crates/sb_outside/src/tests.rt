@@ -1,10 +1,8 @@
-//! The forms in memory with calls that fail, and the standard streams over runtimes of our own.
+//! The forms in memory with calls that fail, and standard output over a runtime of our own.
 
-use crate::{Failed, MemSink, MemSource, Sink, Source, StdSink, StdSource};
-use std::alloc::{Allocator, Global};
+use crate::{Failed, MemSink, MemSource, Sink, Source, StdSink};
 use std::fmt::Display;
 use std::io;
-use std::io::{BufRead, Lines, Write};
 use std::test::Fail;
 
 #[test]
@@ -33,34 +31,6 @@ fn a_sink_keeps_what_was_written_and_fails_where_it_is_told(rt: HostRuntime) -> 
     assert_eq!(rt; sink.write(b"e"), Ok(1));
     assert_eq!(rt; sink.as_slice(), b"abe".as_slice());
     Ok(())
-}
-
-// A runtime whose standard input is always these five bytes.
-#[derive(Clone, Copy)]
-struct Fixed;
-
-impl Input for Fixed {
-    type Reader = &'static [u8];
-
-    fn read_line<A: Allocator + Clone>(&self, buf: &mut String<A>) -> io::Result<usize> {
-        self.reader().read_line(buf)
-    }
-
-    fn lines<A: Allocator>(&self, alloc: A) -> Lines<&'static [u8], A> {
-        self.reader().lines(alloc)
-    }
-
-    fn reader(&self) -> &'static [u8] {
-        b"SEND\n"
-    }
-}
-
-#[test]
-fn standard_input_fills_the_piece(rt: HostRuntime) {
-    let mut source = StdSource::new(Fixed);
-    let mut piece = [0u8; 4];
-    assert_eq!(rt; source.read(&mut piece), Ok(4));
-    assert_eq!(rt; piece, *b"SEND");
 }
 
 // A runtime whose standard output takes at most so many bytes of a piece, or fails.
