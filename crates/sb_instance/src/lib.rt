@@ -6,8 +6,6 @@ mod handing;
 mod instance;
 mod sending;
 mod stopped;
-#[cfg(test)]
-mod tests;
 
 pub use handing::Pending;
 pub use instance::Instance;

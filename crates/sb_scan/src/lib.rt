@@ -12,8 +12,6 @@ mod queue;
 mod routing;
 mod sent;
 mod state;
-#[cfg(test)]
-mod tests;
 mod xml;
 
 pub use acceptance::{Known, ack_verdict, instance_id, makes_side, receiver, verdict, verdict_by};

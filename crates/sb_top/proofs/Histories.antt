@@ -1,0 +1,69 @@
+-- Histories that go on, one part after another.
+use Rattle.std.proofs.Common.{◌≡◌, ℕ, ◌+◌, ◌<◌, ◌≤◌, length, length-append, arith, List, [], ◌∷◌, ◌++◌, refl, sym, ap, ◌∙◌, subst, append_assoc, append-nil}
+use Rattle.sb_log.specs.declared.steps.Step.{Step}
+use Rattle.sb_model.specs.Histories.{Legal, after, next}
+use Rattle.sb_model.specs.Instance.{Part}
+use Rattle.sb_model.specs.Steps.{World}
+use Rattle.sb_top.specs.Runs.{GoesOn, IsPlain, IsQuiet, IsStep, most_steps, world_of}
+
+legal-append : (w : World) (xs ys : List Step) → Legal w xs → Legal (after w xs) ys → Legal w (xs ++ ys)
+legal-append w [] ys p q = q
+legal-append w (x ∷ xs) ys p q = (p.0, legal-append (next w x) xs ys p.1 q)
+
+pub after-append : (w : World) (xs ys : List Step) → after w (xs ++ ys) ≡ after (after w xs) ys
+after-append w [] ys = refl
+after-append w (x ∷ xs) ys = after-append (next w x) xs ys
+
+quiet-append : (w : World) (xs ys : List Step) → IsQuiet w xs → IsQuiet (after w xs) ys → IsQuiet w (xs ++ ys)
+quiet-append w [] ys p q = q
+quiet-append w (x ∷ xs) ys p q = (p.0, p.1, p.2, quiet-append (next w x) xs ys p.3 q)
+
+quiet_one : (p q : Part) (step : Step) → IsStep p step q → IsQuiet (world_of p) (step ∷ [])
+quiet_one p q step is = (is.low, ap (λ w. w.b) (sym is.state), subst (λ w. IsPlain w.a) is.state is.plain, tt)
+
+-- nothing happened
+pub goes_on_same : (p : Part) (h : List Step) (P : List Step → Type 0) → IsPlain p → P [] → GoesOn p h p h P
+goes_on_same p h P plain so = record { more = []; longer_is = sym (append-nil h); within = λ short. short; quiet = tt; legal = tt; state = refl; plain = plain; so = so }
+
+-- nothing happened, by equations
+pub goes_on_still : (p q : Part) (h i : List Step) (P : List Step → Type 0) → q ≡ p → i ≡ h → IsPlain p → P [] → GoesOn p h q i P
+goes_on_still p q h i P same still plain so =
+    record { more = []; longer_is = still ∙ sym (append-nil h); within = λ short. subst (λ x. length x ≤ most_steps) (sym still) short; quiet = tt; legal = tt; state = ap world_of same; plain = subst IsPlain (sym same) plain; so = so }
+
+-- one step
+pub goes_on_one : (p q : Part) (h longer : List Step) (step : Step) (P : List Step → Type 0) → IsStep p step q → longer ≡ h ++ step ∷ [] → length h < most_steps → P (step ∷ []) → GoesOn p h q longer P
+goes_on_one p q h longer step P is longer_is short so =
+    record { more = step ∷ []; longer_is = longer_is; within = λ _. omega (arith, ap length longer_is, length-append h (step ∷ [])); quiet = quiet_one p q step is; legal = (is.gives, tt); state = is.state; plain = is.plain; so = so }
+
+-- one part and then another
+pub goes_on_both : (a b c : Part) (h i j : List Step) (P Q R : List Step → Type 0) → GoesOn a h b i P → GoesOn b i c j Q
+    → ((xs ys : List Step) → world_of c ≡ after (world_of b) ys → P xs → Q ys → R (xs ++ ys)) → GoesOn a h c j R
+goes_on_both a b c h i j P Q R p q join =
+    record {
+      more = p.more ++ q.more;
+      longer_is = q.longer_is ∙ ap (λ x. x ++ q.more) p.longer_is ∙ append_assoc h p.more q.more;
+      within = λ short. q.within (p.within short);
+      legal = legal-append (world_of a) p.more q.more p.legal (subst (λ w. Legal w q.more) p.state q.legal);
+      quiet = quiet-append (world_of a) p.more q.more p.quiet (subst (λ w. IsQuiet w q.more) p.state q.quiet);
+      state = q.state ∙ ap (λ w. after w q.more) p.state ∙ sym (after-append (world_of a) p.more q.more);
+      plain = q.plain;
+      so = join p.more q.more q.state p.so q.so;
+    }
+
+-- the steps are so in another way
+pub goes_on_so : (a b : Part) (h i : List Step) (P Q : List Step → Type 0) → GoesOn a h b i P → ((xs : List Step) → P xs → Q xs) → GoesOn a h b i Q
+goes_on_so a b h i P Q p turn = record { more = p.more; longer_is = p.longer_is; within = p.within; quiet = p.quiet; legal = p.legal; state = p.state; plain = p.plain; so = turn p.more p.so }
+
+-- all of a history that began empty is so
+pub so_all : (a b : Part) (h : List Step) (P : List Step → Type 0) → GoesOn a [] b h P → P h
+so_all a b h P p = subst P (sym p.longer_is) p.so
+
+pub legal_all : (a b : Part) (h : List Step) (P : List Step → Type 0) → GoesOn a [] b h P → Legal (world_of a) h
+legal_all a b h P p = subst (Legal (world_of a)) (sym p.longer_is) p.legal
+
+-- a history that began empty is no longer than any memory holds
+pub within_all : (a b : Part) (h : List Step) (P : List Step → Type 0) → GoesOn a [] b h P → length h ≤ most_steps
+within_all a b h P p = p.within (omega arith)
+
+pub quiet_all : (a b : Part) (h : List Step) (P : List Step → Type 0) → GoesOn a [] b h P → IsQuiet (world_of a) h
+quiet_all a b h P p = subst (IsQuiet (world_of a)) (sym p.longer_is) p.quiet

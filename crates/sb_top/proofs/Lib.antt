@@ -1,0 +1,9 @@
+pub mod Asking
+pub mod Delivery
+pub mod Driving
+pub mod Completing
+pub mod Follows
+pub mod Handing
+pub mod Histories
+pub mod Refusing
+pub mod Writing

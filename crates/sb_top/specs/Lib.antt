@@ -1,0 +1,7 @@
+pub mod Script
+pub mod Transcript
+pub mod Following
+pub mod Writing
+pub mod Ends
+pub mod Runs
+pub mod Laws
