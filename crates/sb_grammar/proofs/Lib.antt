@@ -1,0 +1,16 @@
+pub mod Laws
+pub mod WordLaws
+pub mod WholeLaws
+pub mod Sounds
+pub mod ValueLaws
+pub mod ExprLaws
+pub mod OptionLaws
+pub mod DefinitionLaws
+pub mod DialogLaws
+pub mod RowLaws
+pub mod StatementLaws
+pub mod BatchLaws
+pub mod Words
+pub mod ChoiceForms
+pub mod FixedWords
+pub mod StatementWords

@@ -1,0 +1,13 @@
+pub mod Rules
+pub mod Words
+pub mod Whole
+pub mod Values
+pub mod Exprs
+pub mod Stops
+pub mod Options
+pub mod Definitions
+pub mod Dialogs
+pub mod RowStatements
+pub mod Statements
+pub mod Batches
+pub mod Choices
