@@ -26,3 +26,6 @@ pub use message_reading::{
 pub use message_writing::{put_content, put_flag, put_handle, put_header, put_side};
 pub use refused::EntryRefused;
 pub use unread::Unread;
+
+#[cfg(test)]
+mod tests;

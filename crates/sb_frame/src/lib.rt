@@ -11,3 +11,6 @@ mod refused;
 pub use coding::{decode, encode};
 pub use laws::{frame_has_its_size, frame_has_one_spelling, frame_is_read_again};
 pub use refused::FrameRefused;
+
+#[cfg(test)]
+mod tests;
