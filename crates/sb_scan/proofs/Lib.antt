@@ -1,3 +1,4 @@
 pub mod Firsts
 pub mod Looking
+pub mod Sorting
 pub mod Texts

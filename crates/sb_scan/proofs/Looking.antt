@@ -1,15 +1,17 @@
 -- Whether a side is made, and the n-th of lists that follow each other.
-use Rattle.std.proofs.Common.{◌≡◌, ℕ, ◌<◌, ◌-◌, ◌+◌, length, get_or, List, [], ◌∷◌, ◌++◌, Bool, true, false, refl, ap, sym, ◌∙◌, arith}
-use Rattle.std.specs.Prelude.{zero, suc, ◌||◌, cond, find, flat_map, slice_get, drop, Option, Some, None, is_some, is_none, option_map, option_to_list, Result, Ok, Err}
+use Rattle.std.proofs.Common.{◌≡◌, ℕ, ◌<◌, ◌-◌, ◌+◌, length, get_or, map, List, [], ◌∷◌, ◌++◌, Bool, true, false, refl, ap, sym, ◌∙◌, arith}
+use Rattle.std.specs.Prelude.{zero, suc, ◌||◌, cond, find, flat_map, filter_map, slice_get, drop, Option, Some, None, is_some, is_none, option_map, option_to_list, Result, Ok, Err}
 use Rattle.std.specs.Option.{option_or}
 use Rattle.std.specs.List.{list_any, last_or}
 use Rattle.std.proofs.lemmas.Grind.{flat_map-append, fold-append}
 use Rattle.std.proofs.lemmas.List.{at_drop_more}
-use Rattle.std.proofs.lemmas.List.Elements.{filter-append}
+use Rattle.std.proofs.lemmas.List.Elements.{filter-append, filter_map-append}
 use Rattle.std.proofs.lemmas.List.Folds.{list_any-append, find-append}
 use Rattle.sb_log.specs.declared.identifiers.SideId.{SideId}
 use Rattle.sb_log.specs.declared.entries.Entry.{Entry}
 use Rattle.sb_log.specs.declared.messages.Content.{Content}
+use Rattle.sb_log.specs.declared.messages.Item.{Item}
+use Rattle.sb_model.specs.Items.{taken, taken_by}
 use Rattle.sb_model.specs.Sides.{is_of, made, made_by, makings, has_side, ops_of, ops_of_entry}
 use Rattle.sb_log.specs.declared.identifiers.Handle.{Handle}
 use Rattle.sb_model.specs.Groups.{group_moved}
@@ -107,6 +109,25 @@ moved_step s log i o e h at =
     ∙ ap (last_or o) (flat_map-append (group_moved s) (ops_of_entry (get_or log i e)) (ops_of (drop (i + 1) log)))
     ∙ last_or-append o (flat_map (group_moved s) (ops_of_entry (get_or log i e))) (flat_map (group_moved s) (ops_of (drop (i + 1) log)))
     ∙ ap (λ x. last_or (last_or o (flat_map (group_moved s) (ops_of_entry x))) (flat_map (group_moved s) (ops_of (drop (i + 1) log)))) (sym at)
+
+-- a test of the elements from a place on, seen through a view
+pub any_step : {A B : Type 0} (p : B → Bool) (f : A → B) (xs : List A) (i : ℕ) (x : A) → i < length xs → x ≡ get_or xs i x → (p (f x) || list_any p (map f (drop (i + 1) xs))) ≡ list_any p (map f (drop i xs))
+any_step p f xs i x h at =
+    ap (λ y. p (f y) || list_any p (map f (drop (i + 1) xs))) at ∙ sym (at_drop_more (λ ys. list_any p (map f ys)) xs i x h)
+
+-- what is made of the elements from a place on, seen through a view
+pub made_step : {A B C : Type 0} (g : B → List C) (f : A → B) (xs : List A) (i : ℕ) (x : A) → i < length xs → x ≡ get_or xs i x → flat_map g (map f (drop i xs)) ≡ g (f x) ++ flat_map g (map f (drop (i + 1) xs))
+made_step g f xs i x h at =
+    at_drop_more (λ ys. flat_map g (map f ys)) xs i x h ∙ ap (λ y. g (f y) ++ flat_map g (map f (drop (i + 1) xs))) (sym at)
+
+-- what is made of the items that one more entry takes
+pub taken_step : {A : Type 0} (f : Item → List A) (g : ℕ → Option Item) (log : List Entry) (i : ℕ) (e : Entry) → i < length log → e ≡ get_or log i e → flat_map f (filter_map g (taken (drop i log))) ≡ flat_map f (filter_map g (flat_map taken_by (ops_of_entry e))) ++ flat_map f (filter_map g (taken (drop (i + 1) log)))
+taken_step f g log i e h at =
+    at_drop_more (λ ys. flat_map f (filter_map g (taken ys))) log i e h
+    ∙ ap (λ ns. flat_map f (filter_map g ns)) (flat_map-append taken_by (ops_of_entry (get_or log i e)) (ops_of (drop (i + 1) log)))
+    ∙ ap (flat_map f) (filter_map-append g (flat_map taken_by (ops_of_entry (get_or log i e))) (taken (drop (i + 1) log)))
+    ∙ flat_map-append f (filter_map g (flat_map taken_by (ops_of_entry (get_or log i e)))) (filter_map g (taken (drop (i + 1) log)))
+    ∙ ap (λ x. flat_map f (filter_map g (flat_map taken_by (ops_of_entry x))) ++ flat_map f (filter_map g (taken (drop (i + 1) log)))) (sym at)
 
 pub ruleset nth = (nth_next, nth-append)
 

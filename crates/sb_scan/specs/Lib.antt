@@ -1,4 +1,9 @@
+pub mod Dues
 pub mod Firsts
+pub mod Opened
+pub mod Picked
+pub mod Rows
 pub mod Seen
+pub mod Sents
 pub mod Shown
 pub mod Terms

@@ -1,7 +1,7 @@
 //! What a log says of the messages of one side: sent, ended, accepted, acknowledged,
 //! numbered and outgoing.
 
-ghost use Rattle.std.specs.Prelude.{◌≡◌, Some, IfOk, OnOk, flat_map, fold, max, map, option_map, option_to_list, slice_get, is_some, ◌++◌, drop};
+ghost use Rattle.std.specs.Prelude.{◌≡◌, ◌+◌, ◌^◌, ◌<◌, Some, vec_len, IfOk, OnOk, flat_map, fold, max, map, option_map, option_to_list, slice_get, is_some, ◌++◌, drop};
 ghost use Rattle.std.specs.List.{list_any};
 ghost use Rattle.sb_model.specs.Sides.{ops_of, ops_of_entry};
 ghost use Rattle.sb_model.specs.Messages.{
@@ -224,6 +224,48 @@ pub fn numbered(
         messages.push(last)?;
     }
     Ok(messages)
+}
+
+/// The messages behind the first `count`.
+fn behind<'a>(
+    alloc: Global,
+    messages: &[SeenContent<'a>],
+    count: usize,
+) -> Result<Vec<SeenContent<'a>>, AllocError>
+    ensures { IfOk result (λ rest. rest.items ≡ drop count messages.now) }
+{
+    if count < messages.len() {
+        Vec::from_slice(alloc, &messages[count..])
+    } else {
+        Ok(Vec::new(alloc))
+    }
+}
+
+fn unacked(alloc: Global, log: &[Entry], side: SideId) -> Result<Vec<SeenContent<'_>>, AllocError>
+    ensures rest { IfOk result (λ messages. map content_seen messages.items ≡ drop (acked log.now side) (numbered log.now side)) }
+    ensures numbers { IfOk result (λ messages. 0 < vec_len messages → acked log.now side + vec_len messages < 2 ^ 64) }
+{
+    let messages = numbered(alloc, log, side)?;
+    let rest = behind(alloc, messages.as_slice(), acked(log, side) as usize)?;
+    Ok(rest)
+}
+
+/// The messages of the side that are still to be sent.
+pub fn outgoing(
+    alloc: Global,
+    log: &[Entry],
+    side: SideId,
+) -> Result<Vec<SeenContent<'_>>, AllocError>
+    ensures rest { IfOk result (λ messages. map content_seen messages.items ≡ outgoing log.now side) }
+
+    // The number of the last one, of any, is a `u64`.
+    ensures numbers { IfOk result (λ messages. 0 < vec_len messages → acked log.now side + vec_len messages < 2 ^ 64) }
+{
+    if is_cleaned(log, side) || is_expired(log, side) || is_closed_by_ack(log, side) {
+        Ok(Vec::new(alloc))
+    } else {
+        unacked(alloc, log, side)
+    }
 }
 
 fn ops_clean(ops: &[Op], side: SideId) -> bool

@@ -1,7 +1,5 @@
-use Rattle.std.proofs.Common.{◌≡◌, drop, ◌++◌, ◌≤◌, ◌+◌, ◌==◌, max, map}
-use Rattle.std.specs.Prelude.{find, flat_map, filter, fold, slice_get, None, option_map, option_copied, chars}
-use Rattle.std.specs.List.{list_any, last_or}
-use Rattle.sb_model.specs.Items.{is_taken, items, items_from, taken_by, waiting, waits_in}
+use Rattle.std.proofs.Common.{◌≡◌, drop, ◌++◌, ◌≤◌, ◌+◌, map}
+use Rattle.sb_model.specs.Items.{items, items_from}
 use Rattle.sb_scan.specs.Shown.{item_seen}
 use Rattle.sb_scan.proofs.item.items.Given as goal
 

@@ -1,8 +1,7 @@
-use Rattle.std.proofs.Common.{◌≡◌, drop, ◌++◌, ◌≤◌, ◌+◌, ◌==◌, max, map}
-use Rattle.std.specs.Prelude.{find, flat_map, filter, fold, slice_get, None, option_map, option_copied, chars}
-use Rattle.std.specs.List.{list_any, last_or}
-use Rattle.sb_model.specs.Sides.{before_made, is_of, made, made_by}
-use Rattle.sb_model.specs.Catalog.{definitions, priorities, priority_def}
+use Rattle.std.proofs.Common.{◌≡◌, drop}
+use Rattle.std.specs.Prelude.{filter, fold, option_copied}
+use Rattle.sb_model.specs.Sides.{before_made}
+use Rattle.sb_model.specs.Catalog.{priorities}
 use Rattle.sb_model.specs.Groups.{fit, matches}
 use Rattle.sb_model.specs.Matches.{best_by, better}
 use Rattle.sb_scan.proofs.level.best_before.Given as goal

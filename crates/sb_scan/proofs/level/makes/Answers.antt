@@ -1,5 +1,5 @@
-use Rattle.std.proofs.Common.{◌≡◌, sym, ◌∙◌, ap}
-use Rattle.std.specs.Prelude.{find, is_some}
+use Rattle.std.proofs.Common.{sym, ◌∙◌, ap}
+use Rattle.std.specs.Prelude.{is_some}
 use Rattle.sb_model.specs.Sides.{is_of, made_by}
 use Rattle.sb_scan.specs.Seen.{making_of}
 use Rattle.sb_scan.proofs.Looking.{is_some-map, is_some-find}
