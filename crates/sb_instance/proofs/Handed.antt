@@ -1,5 +1,5 @@
 -- Messages that are handed over, by their numbers.
-use Rattle.std.proofs.Common.{◌≡◌, ℕ, ◌+◌, ◌%◌, ◌^◌, ◌<◌, List, [], ◌∷◌, ◌++◌, length, get_or, map, drop, refl, ap, sym, subst, ◌∙◌, arith}
+use Rattle.std.proofs.Common.{◌≡◌, ℕ, ◌+◌, ◌%◌, ◌^◌, ◌<◌, List, ◌++◌, length, get_or, map, drop, refl, ap, sym, subst, ◌∙◌, arith}
 use Rattle.std.specs.Prelude.{zero, suc, Option, Some, None, Result, Ok, Err, IfOk, flat_map, is_some}
 use Rattle.sb_log.specs.declared.entries.Entry.{Entry}
 use Rattle.sb_log.specs.declared.identifiers.SideId.{SideId}

@@ -1,2 +1,9 @@
 pub mod Handed
+pub mod Known
+pub mod Marking
+pub mod Passing
+pub mod Picking
+pub mod Placing
 pub mod Stepping
+pub mod Taking
+pub mod Untaken

@@ -1,6 +1,7 @@
 -- What a statement's plan makes of a running instance.
-use Rattle.std.proofs.Common.{◌≡◌, ◌⊎◌, ℕ, ◌+◌, ◌%◌, ◌^◌, ◌<◌, List, [], ◌∷◌, ◌++◌, refl, ap, sym, subst, inl, inr, ◌∙◌, arith}
+use Rattle.std.proofs.Common.{◌≡◌, ℕ, ◌+◌, ◌%◌, ◌^◌, ◌<◌, List, [], ◌∷◌, ◌++◌, refl, ap, sym, subst, inl, inr, ◌∙◌, arith}
 use Rattle.std.specs.Prelude.{Option, None, Result, Ok, Err, unwrap_or}
+use Rattle.std.proofs.lemmas.List.{append-nil}
 use Rattle.sb_log.specs.declared.identifiers.Handle.{Handle}
 use Rattle.sb_log.specs.declared.identifiers.Who.{Who}
 use Rattle.sb_log.specs.declared.entries.Entry.{Entry}
@@ -17,7 +18,7 @@ use Rattle.sb_log.specs.declared.steps.Answer.TheVariants as answer
 use Rattle.sb_model.specs.Sides.{Bytes}
 use Rattle.sb_model.specs.Catalog.{default_name}
 use Rattle.sb_model.specs.Instance.{Part, Done, Works, append}
-use Rattle.sb_model.specs.Replies.{Plan, Planned, send}
+use Rattle.sb_model.specs.Replies.{Planned, send}
 use Rattle.sb_model.specs.Statements.{at_once, commit_counts, draws, drew_tx, session_step, txn_entries}
 use Rattle.sb_instance.specs.Running.{running, IsDone, committed, Commits, Refuses}
 use Rattle.sb_instance.specs.Asked.{Answers, IsSent, Wanted, ask_of, wanted}
@@ -55,22 +56,28 @@ step_by who log next tx ops drawn told =
     append Works (drew_tx (running who log next tx)) (txn_entries tx ops) (answer.Replied told)
     (draws (commit_counts (drew_tx (running who log next tx)) ops) drawn)
 
-one_done : (who : Who) (log : List Entry) (next tx : ℕ) (op : Op) (told : Reply) → next < 2 ^ 64 → IsDone (step_by who log next tx (op ∷ []) 0 told) (answer.Replied told) (committed (running who log next tx) (op ∷ []))
-one_done who log next tx op told h =
+all_done : (who : Who) (log : List Entry) (next tx : ℕ) (ops : List Op) (told : Reply) → next < 2 ^ 64 → IsDone (step_by who log next tx ops 0 told) (answer.Replied told) (committed (running who log next tx) ops)
+all_done who log next tx [] told h =
     let small : (next + 0) % 2 ^ 64 ≡ next = omega arith in
-    record { answered = refl; left = ap (λ (n : ℕ). running who (log ++ Txn tx (op ∷ []) ∷ []) n ((tx + 1) % 2 ^ 64)) small }
+    record {
+      answered = refl;
+      left = ap (λ (n : ℕ). running who log n ((tx + 1) % 2 ^ 64)) small ∙ ap (λ (l : List Entry). running who l next ((tx + 1) % 2 ^ 64)) (sym (append-nil log));
+    }
+all_done who log next tx (op ∷ ops) told h =
+    let small : (next + 0) % 2 ^ 64 ≡ next = omega arith in
+    record { answered = refl; left = ap (λ (n : ℕ). running who (log ++ Txn tx (op ∷ ops) ∷ []) n ((tx + 1) % 2 ^ 64)) small }
 
-done_as : (who : Who) (log : List Entry) (next tx : ℕ) (ops : List Op) (drawn : ℕ) (given : Reply) (op : Op) (told : Reply) → next < 2 ^ 64 → ops ≡ op ∷ [] → drawn ≡ 0 → given ≡ told → IsDone (step_by who log next tx ops drawn given) (answer.Replied told) (committed (running who log next tx) (op ∷ []))
-done_as who log next tx ops drawn given op told h o d r =
-    subst (λ (x : List Op). IsDone (step_by who log next tx x drawn given) (answer.Replied told) (committed (running who log next tx) (op ∷ []))) (sym o)
-    (subst (λ (x : ℕ). IsDone (step_by who log next tx (op ∷ []) x given) (answer.Replied told) (committed (running who log next tx) (op ∷ []))) (sym d)
-    (subst (λ (x : Reply). IsDone (step_by who log next tx (op ∷ []) 0 x) (answer.Replied told) (committed (running who log next tx) (op ∷ []))) (sym r)
-    (one_done who log next tx op told h)))
+done_as : (who : Who) (log : List Entry) (next tx : ℕ) (ops : List Op) (drawn : ℕ) (given : Reply) (wanted : List Op) (told : Reply) → next < 2 ^ 64 → ops ≡ wanted → drawn ≡ 0 → given ≡ told → IsDone (step_by who log next tx ops drawn given) (answer.Replied told) (committed (running who log next tx) wanted)
+done_as who log next tx ops drawn given wanted told h o d r =
+    subst (λ (x : List Op). IsDone (step_by who log next tx x drawn given) (answer.Replied told) (committed (running who log next tx) wanted)) (sym o)
+    (subst (λ (x : ℕ). IsDone (step_by who log next tx wanted x given) (answer.Replied told) (committed (running who log next tx) wanted)) (sym d)
+    (subst (λ (x : Reply). IsDone (step_by who log next tx wanted 0 x) (answer.Replied told) (committed (running who log next tx) wanted)) (sym r)
+    (all_done who log next tx wanted told h)))
 
-pub done_planned : (who : Who) (log : List Entry) (next tx : ℕ) (planned : Planned) (op : Op) (told : Reply) → next < 2 ^ 64 → wanted planned ≡ Ok (record { ops = op ∷ []; drawn = 0; reply = told }) → IsDone (step_of who log next tx planned) (answer.Replied told) (committed (running who log next tx) (op ∷ []))
-done_planned who log next tx (Err r) op told h e = absurd (refused_isnt_planned r _ e)
-done_planned who log next tx (Ok plan) op told h e =
-    done_as who log next tx plan.ops plan.drawn plan.reply op told h (ap ops_in e) (ap drawn_in e) (ap reply_in e)
+pub done_planned : (who : Who) (log : List Entry) (next tx : ℕ) (planned : Planned) (ops : List Op) (told : Reply) → next < 2 ^ 64 → wanted planned ≡ Ok (record { ops = ops; drawn = 0; reply = told }) → IsDone (step_of who log next tx planned) (answer.Replied told) (committed (running who log next tx) ops)
+done_planned who log next tx (Err r) ops told h e = absurd (refused_isnt_planned r _ e)
+done_planned who log next tx (Ok plan) ops told h e =
+    done_as who log next tx plan.ops plan.drawn plan.reply ops told h (ap ops_in e) (ap drawn_in e) (ap reply_in e)
 
 pub done_refused : (who : Who) (log : List Entry) (next tx : ℕ) (planned : Planned) (r : Refusal) → wanted planned ≡ Err r → IsDone (step_of who log next tx planned) (answer.Refused r None) (drew_tx (running who log next tx))
 done_refused who log next tx (Ok plan) r e = absurd (planned_isnt_refused r _ e)
@@ -80,7 +87,7 @@ done_refused who log next tx (Err s) r e = record { answered = ap (λ (x : Refus
 pub send_commits : (who : Who) (log : List Entry) (next tx session now : ℕ) (handle : Handle) (kind : Option Bytes) (body : Option Bytes) (name : Bytes) (side : SideId) (result : Result Reply Refusal) (after : Part) → next < 2 ^ 64 → name ≡ unwrap_or kind default_name → IsSent (send (ask_of log) handle name body) name body (Ok side) → Commits (running who log next tx) (Send side name body ∷ []) reply.Done result after → Answers (running who log next tx) session now (request.Send handle kind body) result after
 send_commits who log next tx session now handle kind body name side (Ok given) after h named planned commits =
     let done : IsDone (session_step Works (running who log next tx) session now (request.Send handle kind body)) (answer.Replied reply.Done) (committed (running who log next tx) (Send side name body ∷ [])) =
-    done_planned who log next tx (send (ask_of log) handle (unwrap_or kind default_name) body) (Send side name body) reply.Done h
+    done_planned who log next tx (send (ask_of log) handle (unwrap_or kind default_name) body) (Send side name body ∷ []) reply.Done h
     (subst (λ (x : Bytes). wanted (send (ask_of log) handle x body) ≡ Ok (record { ops = Send side name body ∷ []; drawn = 0; reply = reply.Done })) named planned) in
     record { answered = done.answered ∙ ap answer.Replied (sym commits.0); left = done.left ∙ sym commits.1 }
 send_commits who log next tx session now handle kind body name side (Err r) after h named planned commits = inl commits

@@ -1,5 +1,5 @@
 -- The requests of the first path, and how they are answered.
-use Rattle.std.specs.Prelude.{◌≡◌, ◌⊎◌, ⊤, ℕ, Bool, true, false, List, [], ◌∷◌, Option, None, Some, Result, Ok, Err}
+use Rattle.std.specs.Prelude.{◌≡◌, ◌⊎◌, ⊤, ℕ, Bool, true, false, List, [], ◌∷◌, Option, None, Result, Ok, Err}
 use Rattle.sb_log.specs.declared.identifiers.SideId.{SideId}
 use Rattle.sb_log.specs.declared.identifiers.Who.TheVariants.{A}
 use Rattle.sb_log.specs.declared.entries.Entry.{Entry}
@@ -20,9 +20,10 @@ use Rattle.sb_instance.specs.Running.{IsDone}
 use Rattle.sb_instance.specs.declared.stopped.Stopped.{Stopped}
 use Rattle.sb_instance.specs.declared.stopped.Stopped.TheVariants as stopped
 
--- a SEND
+-- a SEND or a RECEIVE
 abbrev pub is_first_path : Request → Bool
 is_first_path (request.Send handle kind body) = true
+is_first_path (request.Receive queue top filter) = true
 is_first_path _ = false
 
 -- the defined reply and instance; want of memory leaves the instance as it was
@@ -50,3 +51,9 @@ abbrev pub IsSent : Planned → Bytes → Option Bytes → Result SideId Stopped
 IsSent planned kind body (Ok side) = wanted planned ≡ Ok (record { ops = Send side kind body ∷ []; drawn = 0; reply = reply.Done })
 IsSent planned kind body (Err (stopped.Refused r)) = wanted planned ≡ Err r
 IsSent planned kind body (Err stopped.OutOfMemory) = ⊤
+
+-- a check goes on with the rest, or refuses
+abbrev pub Passes : Planned → Planned → Result (Unit {0}) Stopped → Type 0
+Passes planned rest (Ok done) = planned ≡ rest
+Passes planned rest (Err (stopped.Refused r)) = planned ≡ Err r
+Passes planned rest (Err stopped.OutOfMemory) = ⊤

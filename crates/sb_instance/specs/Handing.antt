@@ -12,7 +12,7 @@ use Rattle.sb_log.specs.declared.steps.Verdict.TheVariants.{New, Next}
 use Rattle.sb_model.specs.Sides.{Making, made, partner, same_who}
 use Rattle.sb_model.specs.Messages.{accepted, numbered}
 use Rattle.sb_model.specs.Frames.{destination, sent_header}
-use Rattle.sb_model.specs.Acceptance.{accepted_entry, instance_id, makes_side, verdict}
+use Rattle.sb_model.specs.Acceptance.{instance_id, makes_side, verdict}
 use Rattle.sb_model.specs.Instance.{Part, Works}
 use Rattle.sb_model.specs.Steps.{accept_data, data_entry, verdict_told}
 use Rattle.sb_instance.specs.Running.{IsDone}

@@ -1,6 +1,6 @@
 //! The instance and its steps.
 
-ghost use Rattle.std.specs.Prelude.{◌≡◌, ◌<◌, ◌≤◌, ◌^◌, ◌+◌, ◌++◌, ◌∷◌, [], ℕ, None, IfOk, IsTrue, OnOk, OnErr, IsSome, flat_map, is_some};
+ghost use Rattle.std.specs.Prelude.{◌≡◌, ◌<◌, ◌≤◌, ◌^◌, ◌+◌, ◌++◌, ◌∷◌, [], ℕ, None, IfOk, IsTrue, OnOk, OnErr, IsSome, flat_map, is_some, map};
 ghost use Rattle.sb_log.specs.declared.entries.Op.TheVariants.{Send};
 ghost use Rattle.sb_log.specs.declared.identifiers.Who.TheVariants.{A};
 ghost use Rattle.sb_log.specs.declared.requests.Reply.TheVariants as reply;
@@ -11,15 +11,18 @@ ghost use Rattle.sb_instance.specs.Asked.{Answers, is_first_path};
 ghost use Rattle.sb_log.specs.declared.steps.Verdict.TheVariants.{Next};
 ghost use Rattle.sb_model.specs.Sides.{sides};
 ghost use Rattle.sb_model.specs.Steps.{to_hand_over};
+ghost use Rattle.sb_instance.specs.Candidates.{takes};
 ghost use Rattle.sb_instance.specs.Handing.{HandsOver, pending_by, taken_in};
 ghost use Rattle.sb_instance.specs.Running.{Commits, Refuses};
 
 use crate::counters::{next_handle, next_tx};
 use crate::handing::{Pending, accepted_entry, all_pending, carried, is_carried};
+use crate::receiving::{check_receive, picked, takings};
 use crate::sending::{check_send, kind_of};
 use crate::stopped::Stopped;
 use sb_log::{
-    Body, Data, Entry, Handle, Listed, Name, Op, Refusal, Reply, Request, SideId, Verdict, Who,
+    Body, Data, Entry, Filter, Handle, Listed, Name, Op, ReceivedItem, Refusal, Reply, Request,
+    SideId, Verdict, Who,
 };
 use sb_scan::verdict;
 use std::alloc::{AllocError, Global};
@@ -73,7 +76,7 @@ fn send_ops(
     ensures { IfOk result (λ ops. ops.items ≡ Send side kind body.now ∷ []) }
 {
     let body = body.clone()?;
-    let mut ops = Vec::new(alloc);
+    let mut ops = Vec::with_capacity(alloc, 1)?;
     ops.push(Op::Send { side, kind, body })?;
     Ok(ops)
 }
@@ -101,7 +104,7 @@ impl Instance {
         self.log.as_slice()
     }
 
-    /// Does a SEND of a session that has no transaction open.
+    /// Does a SEND or RECEIVE of a session that has no transaction open.
     pub fn statement(&mut self, session: u8, now: u64, request: &Request) -> Result<Reply, Refusal>
         requires built { IsTrue (is_first_path request.now) }
         requires early { now < 2 ^ 62 }
@@ -110,6 +113,7 @@ impl Instance {
     {
         match request {
             Request::Send { handle, kind, body } => self.send(*handle, kind, body),
+            Request::Receive { queue, top, filter } => self.receive(queue, *top, *filter),
             _ => unreachable!(),
         }
     }
@@ -143,6 +147,31 @@ impl Instance {
                 Err(_) => Err(Refusal::OutOfMemory),
                 Ok(ops) => self.commit(ops, Reply::Done),
             },
+        }
+    }
+
+    fn receive(&mut self, queue: &Name, top: Option<i64>, filter: Filter) -> Result<Reply, Refusal>
+        ensures { (session now : ℕ) → Answers self.old session now (request.Receive queue.now top filter) result self.new }
+    {
+        let log = self.log.as_slice();
+        match check_receive(self.alloc, log, queue, top, filter) {
+            Err(stopped) => Err(self.refuse(stopped)),
+            Ok(()) => match picked(self.alloc, log, queue, top, filter) {
+                Err(_) => Err(Refusal::OutOfMemory),
+                Ok(items) => self.take(queue, items),
+            },
+        }
+    }
+
+    fn take(&mut self, queue: &Name, items: Vec<ReceivedItem>) -> Result<Reply, Refusal>
+        ensures { Commits self.old (map (takes queue.now) items.items) (reply.Received items.items) result self.new }
+    {
+        match takings(self.alloc, queue, items.as_slice()) {
+            Err(_) => Err(Refusal::OutOfMemory),
+            Ok(ops) => {
+                let items = Listed::from_vec(items);
+                self.commit(ops, Reply::Received { items })
+            }
         }
     }
 

@@ -1,11 +1,18 @@
 //! One instance of the broker in memory: its log, and what its statements answer.
 #![tactic(auto)]
 
+mod candidates;
 mod counters;
+mod facts;
 mod handing;
 mod instance;
+mod marks;
+mod ordering;
+mod receiving;
 mod sending;
 mod stopped;
+#[cfg(test)]
+mod tests;
 
 pub use handing::Pending;
 pub use instance::Instance;

@@ -1,15 +1,16 @@
 -- How a history follows commands, command by command.
-use Rattle.std.proofs.Common.{◌≡◌, ℕ, suc, zero, ◌+◌, ◌-◌, ◌<◌, ◌≤◌, arith, true, false, List, [], ◌∷◌, ◌++◌, Result, Ok, Err, refl, sym, ap, ◌∙◌, subst, append_assoc, append-nil}
+use Rattle.std.proofs.Common.{◌≡◌, ℕ, suc, zero, ◌+◌, ◌-◌, ◌<◌, ◌≤◌, arith, Bool, true, false, List, [], ◌∷◌, ◌++◌, length, drop, Result, Ok, Err, refl, sym, ap, ◌∙◌, subst, append_assoc, append-nil}
 use Rattle.sb_instance.specs.declared.handing.Pending.{Pending}
 use Rattle.sb_log.specs.declared.identifiers.SideId.{SideId}
 use Rattle.sb_log.specs.declared.requests.Request.{Request}
+use Rattle.sb_log.specs.declared.steps.Answer.{Answer}
 use Rattle.sb_log.specs.declared.steps.Answer.TheVariants as answer
 use Rattle.sb_log.specs.declared.steps.Step.{Step}
 use Rattle.sb_model.specs.Histories.{after}
 use Rattle.sb_log.specs.declared.steps.Verdict.{Verdict}
 use Rattle.std.specs.Prelude.{MatchBool}
 use Rattle.sb_model.specs.Steps.{World, verdict_told}
-use Rattle.sb_top.specs.Following.{AsksOnce, Cleans, CleansSide, Does, FollowsSoFar, HandsOver, InTurn, asked, first, handed_over, is_taken_in, pending, send_request}
+use Rattle.sb_top.specs.Following.{AsksOnce, Cleans, CleansSide, Does, Follows, FollowsSoFar, HandsOver, InTurn, asked, first, goes_on, handed_over, is_taken_in, pending, receive_request, send_request}
 use Rattle.sb_top.specs.Runs.{GoesBefore, Made}
 use Rattle.sb_top.specs.declared.script.Command.{Command}
 use Rattle.sb_top.specs.declared.script.Command.TheVariants as command
@@ -39,6 +40,7 @@ can_clean w = can_in_turn CleansSide can_clean_side w (pending w)
 
 pub can_do : (w : World) (c : Command) → (steps : List Step) × Does w c steps
 can_do w (command.Send handle body) = can_ask (send_request handle body)
+can_do w command.Receive = can_ask receive_request
 can_do w command.Clean = can_clean w
 
 -- ---- all of them, or a beginning

@@ -5,5 +5,6 @@ pub mod Completing
 pub mod Follows
 pub mod Handing
 pub mod Histories
+pub mod Picking
 pub mod Refusing
 pub mod Writing

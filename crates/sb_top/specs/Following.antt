@@ -1,10 +1,11 @@
 -- Which histories follow a script.
-use Rattle.std.specs.Prelude.{◌≡◌, ℕ, zero, suc, ◌+◌, ◌-◌, Bool, true, false, List, [], ◌∷◌, ◌++◌, flat_map, None, Some, MatchBool}
+use Rattle.std.specs.Prelude.{◌≡◌, ℕ, zero, suc, ◌+◌, ◌-◌, Bool, true, false, List, [], ◌∷◌, ◌++◌, flat_map, None, Some, codes, pos, MatchBool}
 use Rattle.sb_log.specs.declared.identifiers.Actor.{Actor}
 use Rattle.sb_log.specs.declared.identifiers.Actor.TheVariants as actor
 use Rattle.sb_log.specs.declared.identifiers.Handle.{Handle}
 use Rattle.sb_log.specs.declared.identifiers.SideId.{SideId}
-use Rattle.sb_log.specs.declared.identifiers.Who.TheVariants.{A}
+use Rattle.sb_log.specs.declared.identifiers.Who.TheVariants.{A, B}
+use Rattle.sb_log.specs.declared.requests.Filter.TheVariants as filters
 use Rattle.sb_log.specs.declared.requests.Request.{Request}
 use Rattle.sb_log.specs.declared.requests.Request.TheVariants as request
 use Rattle.sb_log.specs.declared.steps.Answer.{Answer}
@@ -32,6 +33,13 @@ first = first_world ready_log None [] None
 -- a SEND of the default type
 abbrev pub send_request : Handle → List ℕ → Request
 send_request handle body = request.Send handle None (Some body)
+
+abbrev pub far_queue : List ℕ
+far_queue = codes "FarQ"
+
+-- a RECEIVE of one message of any conversation from FarQ
+abbrev pub receive_request : Request
+receive_request = request.Receive far_queue (Some (pos 1)) filters.All
 
 -- session 1 of A
 abbrev pub first_session : Actor
@@ -88,6 +96,7 @@ Cleans w steps = InTurn CleansSide w (pending w) steps
 -- the steps of a command in a state
 abbrev pub Does : World → Command → List Step → Type 0
 Does w (command.Send handle body) steps = AsksOnce (send_request handle body) steps
+Does w command.Receive steps = AsksOnce receive_request steps
 Does w command.Clean steps = Cleans w steps
 
 -- every command once, in order

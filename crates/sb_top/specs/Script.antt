@@ -1,5 +1,5 @@
 -- Scripts: which bytes are one, what it commands, and its first refusal.
-use Rattle.std.specs.Prelude.{◌≡◌, ⊤, ℕ, ◌+◌, ◌-◌, ◌==◌, nat_eq, nat_le, nat_lt, Bool, true, false, ◌&&◌, if◌then◌else◌, List, [], ◌∷◌, length, take, drop, map, flat_map, count_by, Option, None, Some, option_map, option_and_then, Result, Ok, Err, codes}
+use Rattle.std.specs.Prelude.{◌≡◌, ⊤, ℕ, ◌+◌, ◌-◌, ◌==◌, nat_eq, nat_le, nat_lt, Bool, true, false, not, ◌&&◌, ◌||◌, if◌then◌else◌, List, [], ◌∷◌, length, take, drop, map, flat_map, count_by, Option, None, Some, option_map, option_and_then, Result, Ok, Err, codes, pos}
 use Rattle.std.specs.List.{list_all, starts_with, take_while}
 use Rattle.std.specs.Option.{option_or}
 use Rattle.std.specs.Char.{is_ascii, is_ascii_alphanumeric}
@@ -75,7 +75,8 @@ line_of text =
     else (if same text (codes "GO") then line.Go
     else (if same text (codes ":clean") then line.World command.Clean
     else (if starts_with nat_eq text (codes ":") then line.Unknown
-    else line_of_send (send_of text))))
+    else (if same text (codes "RECEIVE TOP (1) * FROM FarQ") then line.Statement command.Receive
+    else line_of_send (send_of text)))))
 
 -- ---- what the lines command
 

@@ -3,6 +3,7 @@
 ghost use Rattle.std.specs.Prelude.{◌≡◌, ◌↔◌, ◌+◌, ◌<◌, ◌++◌, ◌∷◌, [], IfOk, IsSome, IsTrue, OnErr, OnOk, length, vec_len, vec_capacity};
 ghost use Rattle.std.specs.List.{AllByRecursion};
 ghost use Rattle.sb_instance.specs.Asked.{is_first_path};
+ghost use Rattle.sb_log.specs.Names.{is_name};
 ghost use Rattle.sb_model.specs.Steps.{to_hand_over};
 ghost use Rattle.sb_top.specs.Following as says;
 ghost use Rattle.sb_top.specs.Runs.{GoesOn, HandedOne, IsPending, IsPlain, IsStep, Keeps, Made, most_steps, world_of};
@@ -10,8 +11,8 @@ ghost use Rattle.sb_top.specs.Runs.{GoesOn, HandedOne, IsPending, IsPlain, IsSte
 use crate::script::Command;
 use sb_instance::{Instance, Pending};
 use sb_log::{
-    Actor, Answer, Arrived, Bytes, Event, Handle, Refusal, Request, Session, SideId, Step, Verdict,
-    Who,
+    Actor, Answer, Arrived, Bytes, Event, Filter, Handle, Name, Refusal, Request, Session, SideId,
+    Step, Verdict, Who,
 };
 use std::alloc::{AllocError, Global};
 
@@ -32,6 +33,7 @@ pub fn perform(
 {
     match command {
         Command::Send { handle, body } => send(instance, history, *handle, body),
+        Command::Receive => receive(alloc, instance, history),
         Command::Clean => clean(alloc, instance, history),
     }
 }
@@ -52,6 +54,28 @@ fn send(
         body,
     };
     ask(instance, history, request)
+}
+
+fn receive(
+    alloc: Global,
+    instance: &mut Instance,
+    history: &mut Vec<Step>,
+) -> Result<(), AllocError>
+    requires { IsPlain instance.old }
+    ensures { GoesOn instance.old history.old.items instance.new history.new.items (Made result (says.AsksOnce says.receive_request)) }
+{
+    let request = Request::Receive {
+        queue: far_queue(alloc)?,
+        top: Some(1),
+        filter: Filter::All,
+    };
+    ask(instance, history, request)
+}
+
+fn far_queue(alloc: Global) -> Result<Name, AllocError>
+    ensures { IfOk result (λ name. name ≡ says.far_queue) }
+{
+    Ok(Name::from_string(String::from_str(alloc, "FarQ")?))
 }
 
 /// More steps than any memory holds.

@@ -13,6 +13,7 @@ use std::alloc::{AllocError, Global};
 #[derive(Debug, Drop)]
 pub enum Command {
     Send { handle: Handle, body: Bytes },
+    Receive,
     Clean,
 }
 
@@ -70,6 +71,8 @@ const HANDLE: usize = 36;
 const GO: &[u8] = b"GO";
 
 const CLEAN: &[u8] = b":clean";
+
+const RECEIVE: &[u8] = b"RECEIVE TOP (1) * FROM FarQ";
 
 /// The commands of a script, or its first refusal.
 pub fn script(alloc: Global, bytes: &[u8]) -> Result<Vec<Command>, NotRead>
@@ -194,6 +197,8 @@ fn line_of(alloc: Global, text: &[u8]) -> Result<Line, AllocError>
         Ok(Line::World(Command::Clean))
     } else if text.starts_with(b":") {
         Ok(Line::Unknown)
+    } else if text == RECEIVE {
+        Ok(Line::Statement(Command::Receive))
     } else {
         match send_of(alloc, text)? {
             Some(send) => Ok(Line::Statement(send)),

@@ -5,7 +5,7 @@ ghost use Rattle.sb_model.specs.Histories.{CommitsWhole, Legal};
 ghost use Rattle.sb_outside.specs.Causes.{Rose};
 ghost use Rattle.sb_top.specs.Ends.{Completes, Followed, HasBadScript, Wrote, is_steps, status_of};
 ghost use Rattle.sb_top.specs.Following.{first};
-ghost use Rattle.sb_top.specs.Laws.{DeliversThroughout};
+ghost use Rattle.sb_top.specs.Laws.{DeliversThroughout, PicksThroughout};
 ghost use Rattle.sb_top.specs.Runs.{IsSound};
 
 use crate::drive::drive;
@@ -42,6 +42,9 @@ pub fn run<S: Source, K: Sink>(
 
     // The operations of each transaction stand in one entry, whole.
     ensures whole { CommitsWhole first result.history.items }
+
+    // A RECEIVE gives no row exactly where nothing is picked, and else takes the picked items.
+    ensures picks { PicksThroughout first result.history.items }
 
     ensures usage { (result.why ≡ Why.Usage) ↔ (is_steps (map (λ w. string_bytes w) words.now) ≡ false) }
     ensures script { HasBadScript result.why (S.left source.old) (S.left source.new) }

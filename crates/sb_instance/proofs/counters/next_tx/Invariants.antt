@@ -1,7 +1,6 @@
-use Rattle.std.proofs.Common.{◌≡◌, ℕ, drop, take, ◌++◌, ◌≤◌, ◌<◌, ◌+◌, ◌==◌, ◌||◌, false, max, map, length, get_or, [], ◌∷◌}
-use Rattle.std.specs.Prelude.{flat_map, filter, fold, None, option_map}
-use Rattle.std.specs.List.{list_any, All}
-use Rattle.sb_model.specs.Instance.{groups_moved, next_handle_of, next_tx_of, own_low, tx_of}
+use Rattle.std.proofs.Common.{◌≡◌, drop, max}
+use Rattle.std.specs.Prelude.{flat_map, fold}
+use Rattle.sb_model.specs.Instance.{tx_of}
 use Rattle.sb_instance.proofs.counters.next_tx.Given as goal
 
 abbrev pub invariant-loop-entry : goal.invariant-loop-entry

@@ -1,8 +1,7 @@
-use Rattle.std.proofs.Common.{◌≡◌, ℕ, drop, take, ◌++◌, ◌≤◌, ◌<◌, ◌+◌, ◌==◌, ◌||◌, false, max, map, length, get_or, [], ◌∷◌}
-use Rattle.std.specs.Prelude.{flat_map, filter, fold, None, option_map}
-use Rattle.std.specs.List.{list_any, All}
-use Rattle.sb_model.specs.Sides.{made_by, made_by_op, makings, ops_of, sides}
-use Rattle.sb_model.specs.Instance.{groups_moved, next_handle_of, next_tx_of, own_low, tx_of}
+use Rattle.std.proofs.Common.{◌≡◌, drop, max, map}
+use Rattle.std.specs.Prelude.{flat_map, fold}
+use Rattle.sb_model.specs.Sides.{made_by_op}
+use Rattle.sb_model.specs.Instance.{own_low}
 use Rattle.sb_instance.specs.Counters.{ids_made}
 use Rattle.sb_instance.proofs.counters.of_begun.Given as goal
 

@@ -1,7 +1,6 @@
-use Rattle.std.proofs.Common.{◌≡◌, ℕ, drop, take, ◌++◌, ◌≤◌, ◌<◌, ◌+◌, ◌==◌, ◌||◌, false, max, map, length, get_or, [], ◌∷◌}
-use Rattle.std.specs.Prelude.{flat_map, filter, fold, None, option_map}
-use Rattle.std.specs.List.{list_any, All}
-use Rattle.sb_model.specs.Sides.{made_by, made_by_op, makings, ops_of, sides}
+use Rattle.std.proofs.Common.{◌≡◌, drop, ◌++◌, map}
+use Rattle.std.specs.Prelude.{flat_map}
+use Rattle.sb_model.specs.Sides.{sides}
 use Rattle.sb_instance.specs.Handing.{pending_in}
 use Rattle.sb_scan.specs.Seen.{making_of}
 use Rattle.sb_instance.proofs.handing.all_pending.Given as goal

@@ -1,7 +1,4 @@
-use Rattle.std.proofs.Common.{◌≡◌, ◌+◌, ◌-◌, sym, ◌∙◌, ap, arith}
-use Rattle.std.specs.Prelude.{ℕ, suc, IfOk}
-use Rattle.sb_log.specs.declared.messages.Data.{Data}
-use Rattle.sb_instance.specs.Handing.{carried}
+use Rattle.std.proofs.Common.{◌-◌, arith}
 use Rattle.sb_instance.proofs.Handed.{none_at_zero, at_next}
 use Rattle.sb_instance.proofs.handing.carried.Goals as goal
 

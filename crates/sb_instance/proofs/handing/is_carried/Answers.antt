@@ -1,6 +1,5 @@
-use Rattle.std.proofs.Common.{◌≡◌, ◌+◌, ◌-◌, sym, ◌∙◌, ap, arith}
-use Rattle.std.specs.Prelude.{ℕ, suc, is_some}
-use Rattle.sb_instance.specs.Handing.{carried}
+use Rattle.std.proofs.Common.{◌-◌, ◌∙◌, ap, arith}
+use Rattle.std.specs.Prelude.{is_some}
 use Rattle.sb_instance.proofs.Handed.{none_at_zero, is_at_next}
 use Rattle.sb_instance.proofs.handing.is_carried.Goals as goal
 

@@ -1,5 +1,8 @@
 use Rattle.sb_top.proofs.Delivery.{commits_whole, delivered_throughout}
 use Rattle.sb_top.proofs.Completing.{complete}
+use Rattle.std.proofs.Common.{refl}
+use Rattle.sb_top.specs.Following.{first}
+use Rattle.sb_top.proofs.Picking.{picks_throughout}
 use Rattle.sb_top.proofs.top.run.Goals as goal
 
 pub returns-clause-complete : goal.returns-clause-complete
@@ -10,6 +13,10 @@ returns-clause-complete g c = λ bytes word tells good no_read no_write.
 
 pub returns-clause-delivery : goal.returns-clause-delivery
 returns-clause-delivery g c = delivered_throughout c.session.result.history.items c.session.ensures.sound.legal c.session.ensures.sound.quiet c.session.ensures.sound.within
+
+pub returns-clause-picks : goal.returns-clause-picks
+returns-clause-picks g c =
+    picks_throughout first c.session.result.history.items (record { who = refl; up = refl; end = refl; closed = refl }) c.session.ensures.sound.legal c.session.ensures.sound.quiet
 
 pub returns-clause-whole : goal.returns-clause-whole
 returns-clause-whole g c = commits_whole c.session.result.history.items c.session.ensures.sound.legal c.session.ensures.sound.quiet c.session.ensures.sound.within

@@ -1,4 +1,4 @@
-use Rattle.std.proofs.Common.{◌≡◌, ◌<◌, ◌^◌, sym}
+use Rattle.std.proofs.Common.{◌<◌, ◌^◌, sym}
 use Rattle.sb_instance.proofs.Stepping.{send_commits_at, send_refuses_at}
 use Rattle.sb_instance.proofs.instance.Instance.send.Goals as goal
 
