@@ -43,7 +43,7 @@ use Rattle.sb_model.specs.Transactions.{OpenTransaction}
 use Rattle.sb_model.specs.Instance.{Part, Luck, Done, append, opened, down_with, end_of, refused}
 use Rattle.sb_model.specs.Statements.{draws, session_open, session_request, session_step, reader_request, reader_step, reader_open, runnable, refused_reader, start_step, start_pick, started_on, may_start_on}
 use Rattle.sb_model.specs.Wire.{Wired, wired, no_longer_waits, spelled_on, put, lines_from, wire_size, sent_size}
-use Rattle.sb_model.specs.Steps.{World, Stepped, part, with_part, on_part, told, deliver_wired, deliver_data, deliver_ack, deliver_frame, arrive, accept_data, data_entry, verdict_told, owes, set_owed, lose_wired, inject, inject_other, pump, pumped, fire, fired_entry, first_due, same_kind, open_with, open_step, serve, sessions_open, is_settled, luck_of, failed, session_words, reader_words, words_told, is_of_words, is_of_reader_words, hand_over, to_hand_over, step}
+use Rattle.sb_model.specs.Steps.{World, Stepped, part, with_part, on_part, told, deliver_wired, deliver_data, deliver_ack, deliver_frame, arrive, accept_data, data_entry, verdict_told, owes, set_owed, lose_wired, inject, inject_other, pump, pumped, fire, fired_entry, first_due, same_kind, open_with, open_step, serve, sessions_open, is_settled, luck_of, failed, session_words, world_words, reader_words, words_told, is_of_words, is_not_yet, is_of_reader_words, hand_over, to_hand_over, step}
 use Rattle.sb_model.specs.Histories.{Act, acts, session_acts, reader_acts, all_end, failure_ends, disk_failed_at}
 use Rattle.sb_laws.specs.Worlds.{IsRoomy}
 use Rattle.sb_laws.proofs.Steps.{runnable_open, open_is_up}
@@ -463,12 +463,25 @@ module _ (w : World) (h : WorldOk w) (roomy : IsRoomy w) where
           (subst (λ l. Moves w (on_part w x (refused (part w x) k)) l) (sym (failing_none w k None (of_words k f))) (on_moves w (λ y. refl) x (refused (part w x) k) [] (effect_stays (part w x))))
       by_test false f g = none_is r g
 
+  of_not_yet : (k : Refusal) → is_not_yet k ≡ true → is_disk k ≡ false
+  of_not_yet (refusal.DiskFailed x) e = clash (sym e)
+  of_not_yet k e = refl
+
+  world_words_moves : (k : Refusal) (r : Stepped) → world_words w k ≡ Some r → Quiet r
+  world_words_moves k r e = by_test (is_not_yet k) refl e
+    where
+      by_test : (c : Bool) → is_not_yet k ≡ c → cond c (Some (told w (answer.Refused k None))) None ≡ Some r → Quiet r
+      by_test true f g = quiet_some (told w (answer.Refused k None)) r g
+          (subst (λ l. Moves w (told w (answer.Refused k None)) l) (sym (failing_none w k None (of_not_yet k f))) (stays_moves (answer.Refused k None)))
+      by_test false f g = none_is r g
+
   pub step_moves : (who : Actor) (e : Event) (given : Answer) (r : Stepped) → step w who e given ≡ Some r → Fine who e r
   step_moves (actor.Session s) (event.Asked req) given r f = some_is (actor.Session s) (event.Asked req) _ r f (session_moves s (luck_of given) req)
   step_moves (actor.Reader x n) (event.Asked req) given r f = reader_moves x n (luck_of given) req r f
   step_moves (actor.Session s) (event.Words words) (answer.Refused k back) r f = inl (session_words_moves s.instance k r f)
   step_moves (actor.Reader x n) (event.Words words) (answer.Refused k back) r f = words_moves x n (failed k) k (event.Words words) r (λ given. refl) f
   step_moves (actor.Reader x n) (event.Start q g) given r f = start_moves x n q g r f
+  step_moves actor.World (event.Words words) (answer.Refused k back) r f = inl (world_words_moves k r f)
   step_moves actor.World (event.Pump x) given r f = inl (quiet_some (pump w x) r f (pump_moves x))
   step_moves actor.World (event.Deliver k to) given r f = inl (quiet_if (option_eq same_who to (option_map (λ z. z.to) (wired w.wire k))) (deliver_wired (luck_of given) w k (wired w.wire k)) r f (deliver_moves (luck_of given) k (wired w.wire k)))
   step_moves actor.World (event.HandOver s n) given r f = inl (hand_over_moves (luck_of given) s n r f)

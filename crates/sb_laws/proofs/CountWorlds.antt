@@ -40,7 +40,7 @@ use Rattle.sb_model.specs.Rollbacks.{count_of}
 use Rattle.sb_model.specs.Poison.{instance_of, rolls_back, added_to, ends_count, opens, fifth_begins_anew, one_more, count_after_step, rollbacks_after, rollbacks_in_a_row}
 use Rattle.sb_model.specs.Statements.{session_request, session_step, reader_request, reader_step, reader_open, runnable, refused_reader, start_pick, started_on, start_step, may_start_on}
 use Rattle.sb_model.specs.Wire.{Wired, wired, no_longer_waits, spelled_on, put, lines_from, wire_size, sent_size}
-use Rattle.sb_model.specs.Steps.{World, Stepped, part, with_part, on_part, told, deliver_wired, deliver_frame, arrive, accept_data, lose_wired, inject, inject_other, pump, pumped, fire, fired_entry, first_due, same_kind, open_with, open_step, serve, sessions_open, is_settled, luck_of, failed, reader_words, words_told, is_of_words, is_of_reader_words, hand_over, to_hand_over, step}
+use Rattle.sb_model.specs.Steps.{World, Stepped, part, with_part, on_part, told, deliver_wired, deliver_frame, arrive, accept_data, lose_wired, inject, inject_other, pump, pumped, fire, fired_entry, first_due, same_kind, open_with, open_step, serve, sessions_open, is_settled, luck_of, failed, reader_words, words_told, is_of_words, is_not_yet, is_of_reader_words, hand_over, to_hand_over, step}
 use Rattle.sb_model.specs.Histories.{Legal, Gives, outcome, world_of, next, after, first_world}
 use Rattle.sb_laws.specs.Worlds.{IsRoomy, StaysFresh}
 use Rattle.sb_laws.specs.Starts.{StartsLinked}
@@ -394,6 +394,7 @@ module _ (w : World) (h : WorldOk w) (roomy : IsRoomy w) where
       (actor_tally (actor.Session s) (event.Words words) s.instance (refused (part w s.instance) k) refl (λ y. refl) (down_done s.instance k (rolls (part w s.instance) (answer.Refused k None)) (λ q. refl)))
   step_tally (actor.Reader x n) (event.Words words) (answer.Refused k back) r f = words_tally x n (failed k) k (event.Words words) r (λ y a. refl) f
   step_tally (actor.Reader x n) (event.Start q g) given r f = start_tally x n q g r f
+  step_tally actor.World (event.Words words) (answer.Refused k back) r f = if_is actor.World (event.Words words) (is_not_yet k) (told w (answer.Refused k None)) r f (same_still (event.Words words) (answer.Refused k None) (λ y. refl))
   step_tally actor.World (event.Pump x) given r f = some_is actor.World (event.Pump x) (pump w x) r f (pump_tally x)
   step_tally actor.World (event.Deliver k to) given r f = if_is actor.World (event.Deliver k to) (option_eq same_who to (option_map (λ z. z.to) (wired w.wire k))) (deliver_wired (luck_of given) w k (wired w.wire k)) r f
       (deliver_tally (event.Deliver k to) (luck_of given) k (wired w.wire k) (λ y a. refl))

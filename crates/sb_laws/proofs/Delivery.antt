@@ -32,7 +32,7 @@ use Rattle.sb_model.specs.Transactions.{OpenTransaction}
 use Rattle.sb_model.specs.Statements.{session_step, reader_step, start_step, runnable, refused_reader}
 use Rattle.sb_model.specs.Dump.{dump}
 use Rattle.sb_model.specs.Wire.{Wired, wired, no_longer_waits, spelled_on}
-use Rattle.sb_model.specs.Steps.{World, Stepped, part, with_part, on_part, told, deliver_wired, lose_wired, inject, pump, open_with, open_step, serve, sessions_open, is_settled, luck_of, failed, step, fire, session_words, reader_words, words_told, is_of_words, is_of_reader_words, hand_over, to_hand_over, handed, accept_data}
+use Rattle.sb_model.specs.Steps.{World, Stepped, part, with_part, on_part, told, deliver_wired, lose_wired, inject, pump, open_with, open_step, serve, sessions_open, is_settled, luck_of, failed, step, fire, session_words, reader_words, words_told, is_of_words, is_not_yet, is_of_reader_words, hand_over, to_hand_over, handed, accept_data}
 use Rattle.sb_model.specs.Histories.{Legal, Gives, outcome, world_of, next, after}
 use Rattle.sb_model.specs.Links.{Logs, IsFrameOf}
 use Rattle.sb_laws.specs.Worlds.{IsRoomy, StaysFresh}
@@ -177,6 +177,7 @@ step_keeps w (actor.Session s) (event.Words words) (answer.Refused k back) r f h
 step_keeps w (actor.Reader x n) (event.Words words) (answer.Refused k back) r f h roomy =
     reader_world w (failed k) x n k r h roomy f
 step_keeps w (actor.Reader x n) (event.Start q g) given r f h roomy = done_world w x (start_step (part w x) q g) r h f (λ d k. start_step_moved (part w x) (h.each x) (roomy.room x) q g d k)
+step_keeps w actor.World (event.Words words) (answer.Refused k back) r f h roomy = if_some (is_not_yet k) (told w (answer.Refused k None)) r f (keeps_same w h)
 step_keeps w actor.World (event.Pump x) given r f h roomy = some_is (pump w x) r f (pump_world w x h)
 step_keeps w actor.World (event.Deliver k to) given r f h roomy =
     if_some (option_eq same_who to (option_map (λ z. z.to) (wired w.wire k))) (deliver_wired (luck_of given) w k (wired w.wire k)) r f (deliver_world w (luck_of given) k (wired w.wire k) h roomy.room refl)

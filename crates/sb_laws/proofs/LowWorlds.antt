@@ -41,7 +41,7 @@ use Rattle.sb_model.specs.Transactions.{OpenTransaction}
 use Rattle.sb_model.specs.Instance.{Part, Luck, Done, append, opened, down_with, end_of, refused}
 use Rattle.sb_model.specs.Statements.{session_step, refused_reader, reader_request, reader_step, runnable, start_pick, started_on, start_step, start_queue}
 use Rattle.sb_model.specs.Wire.{Wired, wired, no_longer_waits, spelled_on, put, lines_from, wire_size, sent_size}
-use Rattle.sb_model.specs.Steps.{World, Stepped, part, with_part, on_part, told, deliver_wired, arrive, accept_data, lose_wired, inject, inject_other, pump, pumped, fire, fired_entry, first_due, same_kind, open_with, open_step, serve, sessions_open, is_settled, luck_of, failed, reader_words, words_told, is_of_words, is_of_reader_words, hand_over, to_hand_over, handed, step}
+use Rattle.sb_model.specs.Steps.{World, Stepped, part, with_part, on_part, told, deliver_wired, arrive, accept_data, lose_wired, inject, inject_other, pump, pumped, fire, fired_entry, first_due, same_kind, open_with, open_step, serve, sessions_open, is_settled, luck_of, failed, reader_words, words_told, is_of_words, is_not_yet, is_of_reader_words, hand_over, to_hand_over, handed, step}
 use Rattle.sb_model.specs.Histories.{outcome, world_of, next, first_world}
 use Rattle.sb_laws.specs.Worlds.{StaysFresh, IsFreshWorld, survivor}
 use Rattle.sb_laws.specs.Fresh.{is_under, spells_low, SpellsLow}
@@ -353,6 +353,7 @@ module _ (low top : ℕ) (le : low + 4 ≤ top) (some : 1 ≤ low) (w : World) (
   step_low (actor.Session s) (event.Words words) (answer.Refused k back) r spelled f = if_low (is_of_words k) (on_part w s.instance (refused (part w s.instance) k)) r f (same_low s.instance)
   step_low (actor.Reader x n) (event.Words words) (answer.Refused k back) r spelled f = reader_words_low (failed k) x n k r f
   step_low (actor.Reader x n) (event.Start q g) given r spelled f = start_low x q g r f
+  step_low actor.World (event.Words words) (answer.Refused k back) r spelled f = if_low (is_not_yet k) (told w (answer.Refused k None)) r f later
   step_low actor.World (event.Pump x) given r spelled f = some_low (pump w x) r f (pump_low x)
   step_low actor.World (event.Deliver k to) given r spelled f =
       if_low (option_eq same_who to (option_map (λ z. z.to) (wired w.wire k))) (deliver_wired (luck_of given) w k (wired w.wire k)) r f (deliver_world_low (luck_of given) k (wired w.wire k) refl)

@@ -118,4 +118,7 @@ pub enum Refusal {
     /// Memory is wanting. It may come at any time and is never recorded.
     #[error("32 OutOfMemory")]
     OutOfMemory,
+    /// The statement or the command is read, and not built yet. It comes before all others.
+    #[error("33 NotYet")]
+    NotYet,
 }

@@ -108,6 +108,7 @@ fn refusals_show_numbers(rt: HostRuntime) -> Result<(), AllocError> {
         ),
         (Refusal::WrongState(State::ER), "18 WrongState ER"),
         (Refusal::Full(62914561), "30 Full 62914561"),
+        (Refusal::NotYet, "33 NotYet"),
     ] {
         assert!(rt; shows(rt.alloc(), &refusal, text)?, "{text}");
     }

@@ -213,12 +213,17 @@ abbrev pub serve : World → List Session → Option Stepped
 serve w [] = if is_settled w then Some (told w answer.Settled) else None
 serve w (s ∷ ss) = Some (told w (answer.Barred (barred.OpenSessions s)))
 
--- a refusal that expressions meet before their statement is asked
+-- a refusal that comes before a statement is asked: its expressions meet it, or it isn't built yet
 abbrev pub is_of_words : Refusal → Bool
 is_of_words (refusal.NoVariable name) = true
 is_of_words (refusal.WrongKind kind) = true
 is_of_words (refusal.Overflow left) = true
+is_of_words refusal.NotYet = true
 is_of_words _ = false
+
+abbrev pub is_not_yet : Refusal → Bool
+is_not_yet refusal.NotYet = true
+is_not_yet _ = false
 
 -- a reader's refused statement rolls back; where the disk fails in that, DiskFailed stands in the refusal's place
 abbrev pub is_of_reader_words : Refusal → Bool
@@ -239,6 +244,10 @@ reader_words luck w x n r =
     if is_of_reader_words r
     then option_map (on_part w x) (option_and_then (λ o. words_told r (refused_reader luck (part w x) o r)) (runnable (part w x) n))
     else None
+
+-- a command of the world that isn't built yet has no effect
+abbrev pub world_words : World → Refusal → Option Stepped
+world_words w r = if is_not_yet r then Some (told w (answer.Refused r None)) else None
 
 -- ---- the first form of the link, without frames
 
@@ -267,6 +276,7 @@ step w (actor.Reader x n) (event.Asked req) given =
 step w (actor.Session s) (event.Words words) (answer.Refused r back) = session_words w s.instance r
 step w (actor.Reader x n) (event.Words words) (answer.Refused r back) = reader_words (failed r) w x n r
 step w (actor.Reader x n) (event.Start q g) given = option_map (on_part w x) (start_step (part w x) q g)
+step w actor.World (event.Words words) (answer.Refused r back) = world_words w r
 step w actor.World (event.Pump x) given = Some (pump w x)
 step w actor.World (event.Deliver k to) given =
     if option_eq same_who to (option_map (λ f. f.to) (wired w.wire k)) then Some (deliver_wired (luck_of given) w k (wired w.wire k)) else None

@@ -140,6 +140,7 @@ refusal_words (refusal.TooBig _) = codes "29 TooBig "
 refusal_words (refusal.Full _) = codes "30 Full "
 refusal_words (refusal.DiskFailed _) = codes "31 DiskFailed "
 refusal_words refusal.OutOfMemory = codes "32 OutOfMemory"
+refusal_words refusal.NotYet = codes "33 NotYet"
 
 -- the value that a refusal shows
 abbrev pub shown_value : Refusal → List ℕ
@@ -164,6 +165,7 @@ shown_value (refusal.Full bytes) = decimal bytes
 shown_value (refusal.DiskFailed x) = letter x
 shown_value refusal.TooMany = []
 shown_value refusal.OutOfMemory = []
+shown_value refusal.NotYet = []
 shown_value (refusal.NameTaken name) = name_text name
 shown_value (refusal.NoMessageType name) = name_text name
 shown_value (refusal.NoContract name) = name_text name

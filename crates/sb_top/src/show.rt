@@ -371,6 +371,7 @@ fn refusal_words(refusal: &Refusal) -> &'static str
         Refusal::Full(_) => "30 Full ",
         Refusal::DiskFailed(_) => "31 DiskFailed ",
         Refusal::OutOfMemory => "32 OutOfMemory",
+        Refusal::NotYet => "33 NotYet",
     }
 }
 
@@ -406,6 +407,6 @@ fn push_shown_value(alloc: Global, out: &mut Vec<u8>, refusal: &Refusal) -> Resu
         | Refusal::NotInContract(name)
         | Refusal::NotYours(name)
         | Refusal::QueueOff(name) => push_name(out, name.as_str().as_bytes()),
-        Refusal::TooMany | Refusal::OutOfMemory => Ok(()),
+        Refusal::TooMany | Refusal::OutOfMemory | Refusal::NotYet => Ok(()),
     }
 }
