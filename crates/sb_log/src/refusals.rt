@@ -4,6 +4,7 @@ use crate::identifiers::{GroupId, Handle, Session, State, Who};
 use crate::names::Name;
 use crate::requests::Numbers;
 use crate::texts::Text;
+use std::alloc::AllocError;
 use std::fmt;
 use thiserror::Error;
 
@@ -30,7 +31,7 @@ impl fmt::Display for ValueKind {
 
 /// Why a statement is refused. The text is the one that a transcript shows
 /// after `refused`: the number, the name and the shown value.
-#[derive(Clone, Debug, Drop, PartialEq, Eq, Error)]
+#[derive(Debug, Drop, PartialEq, Eq, Error)]
 pub enum Refusal {
     /// The instance is down.
     #[error("1 Down {0}")]
@@ -121,4 +122,48 @@ pub enum Refusal {
     /// The statement or the command is read, and not built yet. It comes before all others.
     #[error("33 NotYet")]
     NotYet,
+}
+
+impl Clone for Refusal {
+    ghost use Rattle.std.specs.Prelude.{◌≡◌};
+
+    ghost is_clone = { λ refusal copy. copy ≡ refusal };
+
+    fn clone(&self) -> Result<Refusal, AllocError> {
+        match self {
+            Refusal::Down(instance) => Ok(Refusal::Down(*instance)),
+            Refusal::NoVariable(variable) => Ok(Refusal::NoVariable(variable.clone()?)),
+            Refusal::WrongKind(kind) => Ok(Refusal::WrongKind(*kind)),
+            Refusal::Overflow(left) => Ok(Refusal::Overflow(*left)),
+            Refusal::NoTransaction { session } => Ok(Refusal::NoTransaction { session: *session }),
+            Refusal::InTransaction(tx) => Ok(Refusal::InTransaction(*tx)),
+            Refusal::NameTaken(name) => Ok(Refusal::NameTaken(name.clone()?)),
+            Refusal::NoMessageType(name) => Ok(Refusal::NoMessageType(name.clone()?)),
+            Refusal::NoContract(name) => Ok(Refusal::NoContract(name.clone()?)),
+            Refusal::NoQueue(name) => Ok(Refusal::NoQueue(name.clone()?)),
+            Refusal::NoProcedure(name) => Ok(Refusal::NoProcedure(name.clone()?)),
+            Refusal::NoService(name) => Ok(Refusal::NoService(name.clone()?)),
+            Refusal::NoTable(name) => Ok(Refusal::NoTable(name.clone()?)),
+            Refusal::NothingFromInitiator(name) => Ok(Refusal::NothingFromInitiator(name.clone()?)),
+            Refusal::TooMany => Ok(Refusal::TooMany),
+            Refusal::NoConversation(handle) => Ok(Refusal::NoConversation(*handle)),
+            Refusal::NoGroup(group) => Ok(Refusal::NoGroup(*group)),
+            Refusal::WrongState(state) => Ok(Refusal::WrongState(*state)),
+            Refusal::NotInContract(name) => Ok(Refusal::NotInContract(name.clone()?)),
+            Refusal::NotYours(name) => Ok(Refusal::NotYours(name.clone()?)),
+            Refusal::BodyNotEmpty(bytes) => Ok(Refusal::BodyNotEmpty(*bytes)),
+            Refusal::BodyTooLong(bytes) => Ok(Refusal::BodyTooLong(*bytes)),
+            Refusal::BadNumber(number) => Ok(Refusal::BadNumber(*number)),
+            Refusal::QueueOff(name) => Ok(Refusal::QueueOff(name.clone()?)),
+            Refusal::GroupHeld(tx) => Ok(Refusal::GroupHeld(*tx)),
+            Refusal::RowHeld(tx) => Ok(Refusal::RowHeld(*tx)),
+            Refusal::DuplicateKey(key) => Ok(Refusal::DuplicateKey(*key)),
+            Refusal::Deadlock(txs) => Ok(Refusal::Deadlock(txs.clone()?)),
+            Refusal::TooBig(bytes) => Ok(Refusal::TooBig(*bytes)),
+            Refusal::Full(end) => Ok(Refusal::Full(*end)),
+            Refusal::DiskFailed(instance) => Ok(Refusal::DiskFailed(*instance)),
+            Refusal::OutOfMemory => Ok(Refusal::OutOfMemory),
+            Refusal::NotYet => Ok(Refusal::NotYet),
+        }
+    }
 }
