@@ -18,6 +18,11 @@ escaped_step cs n c h =
     ∙ flat_map-append utf16_of (escaped_character (get_or cs n c)) (flat_map escaped_character (drop (n + 1) cs))
     ∙ ap (λ x. flat_map utf16_of (escaped_character x) ++ escaped_units (drop (n + 1) cs)) (sym h.1)
 
+-- the next character of a text
+pub units_step : (cs : List ℕ) (n c : ℕ) → (n < length cs) × (c ≡ get_or cs n c) → flat_map utf16_of (drop n cs) ≡ utf16_of c ++ flat_map utf16_of (drop (n + 1) cs)
+units_step cs n c h =
+    at_drop_more (flat_map utf16_of) cs n c h.0 ∙ ap (λ x. utf16_of x ++ flat_map utf16_of (drop (n + 1) cs)) (sym h.1)
+
 -- pieces one after the other
 pub five_pieces : (a b c d e : List ℕ) → (((flat_map utf16_of a ++ flat_map utf16_of b) ++ flat_map utf16_of c) ++ flat_map utf16_of d) ++ flat_map utf16_of e ≡ flat_map utf16_of (a ++ (b ++ (c ++ (d ++ e))))
 five_pieces a b c d e = simp (append_assoc, flat_map-append)

@@ -45,4 +45,4 @@ pub use sent::{
     sent_by,
 };
 pub use state::{has_accepted_final, is_done, is_final, may_end, may_send, state_of};
-pub use xml::{error_body, lifetime_body};
+pub use xml::{error_body, lifetime_body, utf16};

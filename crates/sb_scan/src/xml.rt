@@ -1,7 +1,7 @@
 //! The body of an Error message.
 
 ghost use Rattle.std.specs.Prelude.{◌≡◌, ◌<◌, ◌++◌, IfOk, OnOk, flat_map, chars, codes, decimal};
-ghost use Rattle.sb_model.specs.ErrorBody.{error_body, error_characters, escaped_character, lifetime_body, unit_bytes, utf16_of};
+ghost use Rattle.sb_model.specs.ErrorBody.{error_body, error_characters, escaped_character, lifetime_body, unit_bytes, utf16, utf16_of};
 
 use sb_log::{Body, Text};
 use std::alloc::{AllocError, Global};
@@ -86,4 +86,15 @@ pub fn lifetime_body(alloc: Global) -> Result<Body, AllocError>
     ensures { IfOk result (λ body. body ≡ lifetime_body) }
 {
     error(alloc, b"-1", "The lifetime has passed")
+}
+
+/// A text in UTF-16LE, without a mark in front.
+pub fn utf16(alloc: Global, text: &str) -> Result<Body, AllocError>
+    ensures { IfOk result (λ body. body ≡ utf16 text.now) }
+{
+    let mut body = Vec::new(alloc);
+    for character in text.chars() {
+        push_character(&mut body, character as u32)?;
+    }
+    Ok(Body::from_vec(body))
 }
