@@ -14,3 +14,4 @@ pub mod Words
 pub mod ChoiceForms
 pub mod FixedWords
 pub mod StatementWords
+pub mod BarredWords

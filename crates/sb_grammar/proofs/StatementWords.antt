@@ -24,7 +24,7 @@ use Rattle.sb_grammar.specs.Choices.{BeginsNot}
 use Rattle.sb_grammar.proofs.Words.{alike, off, AllOff, all_off, was_fixed, fixed_none, chain, both}
 use Rattle.sb_grammar.proofs.ChoiceForms.{Excludes, excludes_back, token-not, bind-not, map-not, also-not, alt-not, barred-not}
 
-abbrev first_words : List Fixed
+abbrev pub first_words : List Fixed
 first_words =
     fixed.End ∷ fixed.If ∷ fixed.Create ∷ fixed.Alter ∷ fixed.Commit ∷ fixed.Begin ∷ fixed.Rollback ∷ fixed.Send ∷ fixed.Waitfor ∷ fixed.Receive ∷ fixed.Get ∷ fixed.Move
     ∷ fixed.Insert ∷ fixed.Update ∷ fixed.Delete ∷ fixed.Select ∷ fixed.Declare ∷ fixed.Set ∷ fixed.Return ∷ []
@@ -63,12 +63,12 @@ unfolding first_of
 no_first in_batch n t (a, more) = rw a (begins_none in_batch n t more)
 
 -- the token is a word other than those
-record Other (words : List Fixed) (t : Lexeme) : Type 0 where
-  word : Fixed
-  is : is_fixed word t ≡ true
-  apart : list_any (alike word) words ≡ false
+pub record Other (words : List Fixed) (t : Lexeme) : Type 0 where
+  pub word : Fixed
+  pub is : is_fixed word t ≡ true
+  pub apart : list_any (alike word) words ≡ false
 
-all_others : (words : List Fixed) (t : Lexeme) → Other words t → AllOff words t
+pub all_others : (words : List Fixed) (t : Lexeme) → Other words t → AllOff words t
 all_others words t o = all_off o.word t o.is words o.apart
 
 -- ---- BEGIN, and blocks
@@ -85,7 +85,7 @@ excludes_first : {B : Type 0} (f : Lexeme → Option B) → ((t : Lexeme) (b : B
 excludes_first f other in_batch n t b h = no_first in_batch n t (all_others first_words t (other t b h))
 
 -- a statement begins with none of other words
-statement-not : {B : Type 0} (f : Lexeme → Option B) → ((t : Lexeme) (b : B) → f t ≡ Some b → Other first_words t) → (in_batch : Bool) (n : ℕ) → BeginsNot f (any_statement (first_of in_batch n) (rest_of in_batch n))
+pub statement-not : {B : Type 0} (f : Lexeme → Option B) → ((t : Lexeme) (b : B) → f t ≡ Some b → Other first_words t) → (in_batch : Bool) (n : ℕ) → BeginsNot f (any_statement (first_of in_batch n) (rest_of in_batch n))
 statement-not f other in_batch n = bind-not f (token (first_of in_batch n) (example fixed.Return) first.Return) (λ b. closed (rest_of in_batch n b)) Stops
     (token-not f (first_of in_batch n) (example fixed.Return) first.Return (excludes_first f other in_batch n))
 
@@ -175,10 +175,14 @@ end_off t (a, _) = fixed_none fixed.End t a
 inner_off : (in_batch : Bool) (n : ℕ) (t : Lexeme) → AllOff first_words t → inner_first in_batch n t ≡ None
 inner_off in_batch n t (_, more) = begins_none in_batch n t more
 
+-- nor does a turn of a block
+pub turn-not : {B : Type 0} (f : Lexeme → Option B) → ((t : Lexeme) (b : B) → f t ≡ Some b → Other first_words t) → (in_batch : Bool) (n : ℕ) → BeginsNot f (any_turn (inner_first in_batch n) (rest_of in_batch n) (end_tail (sum n)))
+turn-not f other in_batch n = alt-not f (inner_first in_batch n) (λ b. map_rule some_statement (closed (rest_of in_batch n b))) (end_word (end_tail (sum n))) Stops
+    (λ t b h. inner_off in_batch n t (all_others first_words t (other t b h)))
+    (also-not f (sign fixed.End) (block_end (end_tail (sum n))) (token-not f (fixed_at fixed.End) (example fixed.End) tt (λ t b h. end_off t (all_others first_words t (other t b h)))))
+
 pub barred_turn : (in_batch : Bool) (n : ℕ) → BeginsNot first_barred (any_turn (inner_first in_batch n) (rest_of in_batch n) (end_tail (sum n)))
-barred_turn in_batch n = alt-not first_barred (inner_first in_batch n) (λ b. map_rule some_statement (closed (rest_of in_batch n b))) (end_word (end_tail (sum n))) Stops
-    (λ t b h. inner_off in_batch n t (all_others first_words t (is_barred t b h)))
-    (also-not first_barred (sign fixed.End) (block_end (end_tail (sum n))) (token-not first_barred (fixed_at fixed.End) (example fixed.End) tt (λ t b h. end_off t (all_others first_words t (is_barred t b h)))))
+barred_turn in_batch n = turn-not first_barred is_barred in_batch n
 
 is_try : (t : Lexeme) (b : Barred) → try_of t ≡ Some b → is_fixed fixed.Try t ≡ true
 unfolding try_of

@@ -1,24 +1,26 @@
 //! Laws of the grammar, each the contract of a function that does nothing.
 
-ghost use Rattle.std.specs.Prelude.{◌≡◌, ℕ, Bool, true, false, List, [], None};
+ghost use Rattle.std.specs.Prelude.{◌≡◌, ℕ, Bool, true, false, List, [], ◌∷◌, All, None};
 ghost use Rattle.sb_grammar.specs.declared.lexeme.Lexeme as lexemes;
 ghost use Rattle.sb_grammar.specs.declared.tree.Expr as exprs;
 ghost use Rattle.sb_grammar.specs.declared.tree.Statement as statements;
 ghost use Rattle.sb_grammar.specs.declared.tree.Statement.TheVariants as trees;
 ghost use Rattle.sb_grammar.specs.declared.tree.Change.TheVariants as changes;
 ghost use Rattle.sb_grammar.specs.declared.choice.First.TheVariants as firsts;
+ghost use Rattle.sb_grammar.specs.declared.choice.RouteOption.{RouteOption};
+ghost use Rattle.sb_grammar.specs.declared.choice.RouteOptions.{RouteOptions};
 ghost use Rattle.sb_grammar.specs.declared.word.Fixed.TheVariants as fixed;
-ghost use Rattle.sb_grammar.specs.Rules.{Toks, map_rule};
-ghost use Rattle.sb_grammar.specs.Words.{is_fixed, fixed_at};
-ghost use Rattle.sb_grammar.specs.Values.{variable_of, name_of, text_of, number_of};
+ghost use Rattle.sb_grammar.specs.Rules.{Toks, token, map_rule};
+ghost use Rattle.sb_grammar.specs.Words.{is_fixed, fixed_at, example};
+ghost use Rattle.sb_grammar.specs.Values.{sign, word, variable_of, name_of, text_of, number_of};
 ghost use Rattle.sb_grammar.specs.Exprs.{literal, literal_by, literal_item, is_null, compared, unbracketed, unbracketed_item, sum};
-ghost use Rattle.sb_grammar.specs.Definitions.{create_rest};
-ghost use Rattle.sb_grammar.specs.Dialogs.{error_ending, named_columns, some_columns, plain_column, end_tail};
+ghost use Rattle.sb_grammar.specs.Definitions.{create_rest, xml_of, empty_of, retention_of, transport_of, address_of, example_address, route_bars, route_choices};
+ghost use Rattle.sb_grammar.specs.Dialogs.{error_ending, named_columns, some_columns, plain_column, end_tail, encryption_bars, filter};
 ghost use Rattle.sb_grammar.specs.RowStatements.{set_variable};
-ghost use Rattle.sb_grammar.specs.Stops.{first_barred};
+ghost use Rattle.sb_grammar.specs.Stops.{first_barred, into_of};
 ghost use Rattle.sb_grammar.specs.Statements.{inner_first, first_of, begun_of, try_of, block_at, end_word, any_turn, any_statement, rest_of, closed};
 ghost use Rattle.sb_grammar.specs.Batches.{batch, procedure, transaction_of, procedure_word};
-ghost use Rattle.sb_grammar.specs.Choices.{BeginsNot};
+ghost use Rattle.sb_grammar.specs.Choices.{BeginsNot, written};
 ghost use Rattle.sb_grammar.specs.Whole.{IsGrammar};
 
 /// What is read of a batch is spelled, what is spelled is read, and else the first place is named at
@@ -82,4 +84,19 @@ pub fn barred_words()
     ensures statement { (in_batch : Bool) (levels : ℕ) → BeginsNot first_barred (any_statement (first_of in_batch levels) (rest_of in_batch levels)) }
     ensures turn { (in_batch : Bool) (levels : ℕ) → BeginsNot first_barred (any_turn (inner_first in_batch levels) (rest_of in_batch levels) (end_tail (sum levels))) }
     ensures block { (in_batch : Bool) (levels : ℕ) → BeginsNot try_of (map_rule trees.Block (block_at in_batch levels)) }
+{}
+
+/// No word within a statement that isn't supported where it stands begins what else may stand there.
+/// INTO stands where a filter may be missing, so it begins neither a filter nor what follows a RECEIVE:
+/// a statement, a block's next turn, a bracket, a semicolon, ELSE, or the COMMIT that ends a procedure.
+pub fn barred_words_of_parts()
+    ensures validation { BeginsNot xml_of (token empty_of (example fixed.Nothing) false) }
+    ensures retention { BeginsNot retention_of (sign fixed.Off) }
+    ensures encryption { BeginsNot encryption_bars (sign fixed.Off) }
+    ensures address { BeginsNot transport_of (token address_of example_address None) }
+    ensures route { (before : RouteOptions) (option : RouteOption) → BeginsNot (route_bars before) (written route_choices option before) }
+    ensures filter_or_into { (levels : ℕ) → BeginsNot into_of (word fixed.Where (filter (sum levels))) }
+    ensures statement_or_into { (in_batch : Bool) (levels : ℕ) → BeginsNot into_of (any_statement (first_of in_batch levels) (rest_of in_batch levels)) }
+    ensures turn_or_into { (in_batch : Bool) (levels : ℕ) → BeginsNot into_of (any_turn (inner_first in_batch levels) (rest_of in_batch levels) (end_tail (sum levels))) }
+    ensures ending_or_into { All (λ w. BeginsNot into_of (sign w)) (fixed.Close ∷ fixed.Semicolon ∷ fixed.Else ∷ fixed.Commit ∷ []) }
 {}

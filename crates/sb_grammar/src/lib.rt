@@ -17,9 +17,9 @@ pub use choice::{
     Progress, QueueOption, QueueOptions, RouteOption, RouteOptions,
 };
 pub use facts::{
-    barred_words, batches_are_read_exactly, batches_are_spelled_apart, fixed_words_of_expressions,
-    fixed_words_of_parts, fixed_words_of_statements, procedures_are_read_exactly,
-    procedures_are_spelled_apart,
+    barred_words, barred_words_of_parts, batches_are_read_exactly, batches_are_spelled_apart,
+    fixed_words_of_expressions, fixed_words_of_parts, fixed_words_of_statements,
+    procedures_are_read_exactly, procedures_are_spelled_apart,
 };
 pub use lexeme::Lexeme;
 pub use tree::{
