@@ -1,9 +1,12 @@
+pub mod Carried
 pub mod Handed
 pub mod Known
 pub mod Marking
+pub mod Noted
 pub mod Passing
 pub mod Picking
 pub mod Placing
+pub mod Sent
 pub mod Stepping
 pub mod Taking
 pub mod Untaken

@@ -2,6 +2,9 @@ pub mod Running
 pub mod Asked
 pub mod Counters
 pub mod Handing
+pub mod Carrying
+pub mod Sending
+pub mod Noted
 pub mod Candidates
 pub mod Giving
 pub mod Untaken

@@ -13,18 +13,21 @@ ghost use Rattle.sb_model.specs.Sides.{sides};
 ghost use Rattle.sb_model.specs.Steps.{to_hand_over};
 ghost use Rattle.sb_instance.specs.Candidates.{takes};
 ghost use Rattle.sb_instance.specs.Handing.{HandsOver, pending_by, taken_in};
+ghost use Rattle.sb_instance.specs.Carrying.{IsCarried};
 ghost use Rattle.sb_instance.specs.Running.{Commits, Refuses};
+ghost use Rattle.sb_instance.specs.Sending.{IsQuiet};
 
+use crate::carrying::{Carrying, behind, is_type_refused};
 use crate::counters::{next_handle, next_tx};
 use crate::handing::{Pending, accepted_entry, all_pending, carried, is_carried};
 use crate::receiving::{check_receive, picked, takings};
-use crate::sending::{check_send, kind_of};
+use crate::sending::{Sending, check_send, kind_of, note};
 use crate::stopped::Stopped;
 use sb_log::{
     Body, Data, Entry, Filter, Handle, Listed, Name, Op, ReceivedItem, Refusal, Reply, Request,
     SideId, Verdict, Who,
 };
-use sb_scan::verdict;
+use sb_scan::{partner, verdict};
 use std::alloc::{AllocError, Global};
 use std::marker::Model;
 
@@ -36,6 +39,10 @@ pub struct Instance {
     log: Vec<Entry>,
     next_handle: u64,
     next_tx: u64,
+    // What is known of the side whose message was handed over last, if the log ends with it.
+    carrying: Option<Carrying>,
+    // Sides that are known to be ones that may send.
+    sending: Vec<Sending>,
 }
 
 impl Model for Instance {
@@ -45,13 +52,14 @@ impl Model for Instance {
     ghost use Rattle.sb_model.specs.Sides.{sides};
     ghost use Rattle.sb_model.specs.Steps.{to_hand_over};
     ghost use Rattle.sb_instance.specs.Handing.{HandsOver, pending_by, taken_in};
+    ghost use Rattle.sb_instance.specs.Noted.{IsSound};
     ghost use Rattle.sb_instance.specs.Running.{running};
 
     ghost Value = { Part };
 
     ghost view = { λ a. running a.who a.log.items a.next_handle a.next_tx };
 
-    ghost invariant = { λ a. a.next_handle < 2 ^ 64 };
+    ghost invariant = { λ a. IsSound a.who a.log.items a.next_handle a.carrying a.sending.items };
 }
 
 fn push_transaction(log: &mut Vec<Entry>, tx: u64, ops: Vec<Op>) -> Result<(), AllocError>
@@ -94,6 +102,8 @@ impl Instance {
             log,
             next_handle,
             next_tx,
+            carrying: None,
+            sending: Vec::new(alloc),
         })
     }
 
@@ -141,11 +151,21 @@ impl Instance {
         let Ok(kind) = kind_of(self.alloc, kind) else {
             return Err(Refusal::OutOfMemory);
         };
-        match check_send(self.alloc, self.log.as_slice(), handle, &kind, body) {
+        match check_send(
+            self.alloc,
+            self.log.as_slice(),
+            self.sending.as_slice(),
+            handle,
+            &kind,
+            body,
+        ) {
             Err(stopped) => Err(self.refuse(stopped)),
             Ok(side) => match send_ops(self.alloc, side, kind, body) {
                 Err(_) => Err(Refusal::OutOfMemory),
-                Ok(ops) => self.commit(ops, Reply::Done),
+                Ok(ops) => {
+                    note(&mut self.sending, handle, side);
+                    self.commit(ops, Reply::Done)
+                }
             },
         }
     }
@@ -176,8 +196,10 @@ impl Instance {
     }
 
     fn commit(&mut self, ops: Vec<Op>, reply: Reply) -> Result<Reply, Refusal>
+        requires { IsQuiet ops.items }
         ensures { Commits self.old ops.items reply result self.new }
     {
+        self.carrying = None;
         match push_transaction(&mut self.log, self.next_tx, ops) {
             Err(_) => Err(Refusal::OutOfMemory),
             Ok(()) => {
@@ -202,18 +224,75 @@ impl Instance {
         is_carried(self.who, self.log.as_slice(), side, number)
     }
 
-    /// Hands the message of the side with this number to the partner's side.
+    /// Hands the message of the side with this number to the partner's side. One that comes
+    /// behind a message that was just taken in is handed over without going over the log.
     pub fn hand_over(&mut self, side: SideId, number: u64) -> Result<Verdict, AllocError>
         requires { IsSome (to_hand_over self.old side number) }
         ensures handed { IfOk result (λ given. HandsOver self.old (to_hand_over self.old side number) given self.new) }
         ensures kept { OnErr result (self.new ≡ self.old) }
     {
-        let Some(message) = carried(self.who, self.log.as_slice(), side, number)? else {
+        match self.carrying.take() {
+            None => self.carry_first(side, number),
+            Some(known) => {
+                if known.is_before(side, number) {
+                    self.carry_on(known, number)
+                } else {
+                    self.carry_first(side, number)
+                }
+            }
+        }
+    }
+
+    fn carry_first(&mut self, side: SideId, number: u64) -> Result<Verdict, AllocError>
+        requires { IsSome (to_hand_over self.old side number) }
+        ensures handed { IfOk result (λ given. HandsOver self.old (to_hand_over self.old side number) given self.new) }
+        ensures kept { OnErr result (self.new ≡ self.old) }
+    {
+        let log = self.log.as_slice();
+        let Some(message) = carried(self.who, log, side, number)? else {
             unreachable!();
         };
-        let given = verdict(self.who, self.log.as_slice(), &message);
+        let given = verdict(self.who, log, &message);
+        let known = behind(self.alloc, log, &message, given);
         self.take_in(message, given)?;
+        self.carrying = known;
         Ok(given)
+    }
+
+    fn carry_on(&mut self, known: Carrying, number: u64) -> Result<Verdict, AllocError>
+        requires known { IsCarried self.old.who self.old.log known }
+        requires next { number ≡ known.number + 1 }
+        requires there { IsSome (to_hand_over self.old known.side number) }
+        ensures handed { IfOk result (λ given. HandsOver self.old (to_hand_over self.old known.side number) given self.new) }
+        ensures kept { OnErr result (self.new ≡ self.old) }
+    {
+        let Carrying {
+            side,
+            number: _,
+            contract,
+            mut rest,
+        } = known;
+        let Some(content) = rest.pop_front() else {
+            return self.carry_first(side, number);
+        };
+        if is_type_refused(self.log.as_slice(), side, &contract, &content) {
+            return Ok(Verdict::NotHere(6));
+        }
+        self.carrying = None;
+        self.sending.clear();
+        self.log.push(Entry::Accepted {
+            side: partner(side),
+            number,
+            made: None,
+            content,
+        })?;
+        self.carrying = Some(Carrying {
+            side,
+            number,
+            contract,
+            rest,
+        });
+        Ok(Verdict::Next)
     }
 
     fn take_in(&mut self, message: Data, given: Verdict) -> Result<(), AllocError>
@@ -236,6 +315,8 @@ impl Instance {
         ensures kept { OnErr result (self.new ≡ self.old) }
     {
         let entry = accepted_entry(self.who, self.log.as_slice(), self.next_handle, message)?;
+        self.carrying = None;
+        self.sending.clear();
         self.log.push(entry)?;
         Ok(())
     }

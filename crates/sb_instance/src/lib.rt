@@ -2,6 +2,7 @@
 #![tactic(auto)]
 
 mod candidates;
+mod carrying;
 mod counters;
 mod facts;
 mod handing;

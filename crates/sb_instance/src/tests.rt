@@ -9,6 +9,7 @@ use sb_log::{
     ServiceDef, SideId, Verdict,
 };
 use std::alloc::Global;
+use std::process::Abort;
 use std::test::Fail;
 
 const A: u128 = 0xa000_0000_0000_0000_0000_0000_0000_0000;
@@ -102,6 +103,30 @@ fn a_message_is_sent_handed_over_and_received(rt: HostRuntime) -> Result<(), Fai
     let second = it.statement(1, 0, &receive(alloc, "FarQ", None)?)?;
     assert_eq!(rt; messages_in(second), Some(0));
     assert_eq!(rt; it.log().len(), 8);
+    Ok(())
+}
+
+fn hand(rt: &impl Abort, it: &mut Instance, number: u64, given: Verdict) -> Result<(), Fail> {
+    assert!(rt; it.can_hand_over(NEAR, number));
+    assert_eq!(rt; it.hand_over(NEAR, number)?, given);
+    Ok(())
+}
+
+#[test]
+fn messages_are_handed_over_in_turn(rt: HostRuntime) -> Result<(), Fail> {
+    let alloc = rt.alloc();
+    let mut it = dialog(alloc)?;
+    let one = send(alloc, A + 1)?;
+    for _ in 0..4 {
+        assert!(rt; it.statement(1, 0, &one)? == Reply::Done);
+    }
+    hand(&rt, &mut it, 1, Verdict::New)?;
+    hand(&rt, &mut it, 2, Verdict::Next)?;
+    hand(&rt, &mut it, 4, Verdict::Early)?;
+    hand(&rt, &mut it, 3, Verdict::Next)?;
+    hand(&rt, &mut it, 3, Verdict::Repeat)?;
+    hand(&rt, &mut it, 4, Verdict::Next)?;
+    assert_eq!(rt; it.log().len(), 13);
     Ok(())
 }
 
