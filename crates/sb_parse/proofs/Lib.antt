@@ -1,0 +1,10 @@
+pub mod Utf8
+pub mod Untils
+pub mod Series
+pub mod WholeAnswers
+pub mod Members
+pub mod Calls
+pub mod LexemeLaws
+pub mod Turns
+pub mod QuoteLaws
+pub mod Ports

@@ -1,0 +1,11 @@
+use Rattle.std.proofs.Common.{◌≤◌, length}
+use Rattle.sb_grammar.specs.Definitions.{commas}
+use Rattle.sb_grammar.specs.Definitions.{sent_by}
+use Rattle.sb_parse.proofs.Members.{Members}
+use Rattle.sb_parse.proofs.contracts.sent_bys.Given as goal
+
+abbrev pub invariant-members : goal.invariant-members
+invariant-members l = Members sent_by l.all l.rest ((commas sent_by).reads l.fn.tokens) × (length l.rest ≤ length l.fn.tokens)
+
+abbrev pub decreases-members : goal.decreases-members
+decreases-members l = length l.rest

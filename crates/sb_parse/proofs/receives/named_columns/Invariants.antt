@@ -1,0 +1,11 @@
+use Rattle.std.proofs.Common.{◌≤◌, length}
+use Rattle.sb_grammar.specs.Definitions.{commas}
+use Rattle.sb_grammar.specs.Dialogs.{column}
+use Rattle.sb_parse.proofs.Members.{Members}
+use Rattle.sb_parse.proofs.receives.named_columns.Given as goal
+
+abbrev pub invariant-members : goal.invariant-members
+invariant-members l = Members column l.all l.rest ((commas column).reads l.fn.tokens) × (length l.rest ≤ length l.fn.tokens)
+
+abbrev pub decreases-members : goal.decreases-members
+decreases-members l = length l.rest
