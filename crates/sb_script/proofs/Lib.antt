@@ -1,0 +1,5 @@
+mod Numbers
+mod Goes
+mod Texts
+mod NoStatements
+mod Alone

@@ -1,0 +1,17 @@
+//! Whole scripts: their lines, the commands of the world among them, and the batches between.
+//!
+//! A line that is GO ends a batch, and a line that begins with a colon ends one and is a command. A
+//! batch is judged whole when it ends, and the first refusal in the order of the lines is named.
+#![tactic(auto)]
+
+mod commands;
+mod facts;
+mod lines;
+mod reading;
+
+pub use commands::{BadWhy, Command};
+pub use facts::{commands_are_said_alone, texts_without_tokens_spell_none};
+pub use reading::{LIMIT, ScriptRefused, script};
+
+#[cfg(test)]
+mod tests;
