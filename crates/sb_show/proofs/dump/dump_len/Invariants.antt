@@ -1,0 +1,8 @@
+use Rattle.std.proofs.Common.{◌≡◌, length, take}
+use Rattle.std.specs.List.{flat_map}
+use Rattle.sb_show.specs.Values.{capped}
+use Rattle.sb_show.specs.Answers.{dump_line}
+use Rattle.sb_show.proofs.dump.dump_len.Given as goal
+
+abbrev pub invariant-loop-line : goal.invariant-loop-line
+invariant-loop-line l = l.sum ≡ capped (length (flat_map dump_line (take l.line-index l.lines)))

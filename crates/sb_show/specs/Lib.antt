@@ -1,0 +1,5 @@
+pub mod Values
+pub mod Refusals
+pub mod Events
+pub mod Answers
+pub mod Transcript
