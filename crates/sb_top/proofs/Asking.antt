@@ -1,10 +1,9 @@
 -- A statement that an instance without a journal answered is a step, and leaves it without one.
-use Rattle.std.proofs.Common.{◌≡◌, ℕ, Bool, true, false, List, [], ◌∷◌, ◌++◌, ◌⊎◌, inl, inr, Option, Some, None, Result, Ok, Err, refl, sym, ap, subst, ◌∙◌}
-use Rattle.std.specs.Prelude.{IsTrue, if◌then◌else◌, sum_by, option_map, find, ◌+◌, ◌%◌, ◌^◌}
+use Rattle.std.proofs.Common.{◌≡◌, ℕ, Bool, true, false, List, [], ◌∷◌, inl, inr, Option, Some, None, Ok, Err, refl, sym, ap, subst, ◌∙◌}
+use Rattle.std.specs.Prelude.{IsTrue, if◌then◌else◌, sum_by, option_map, find, ◌+◌, ◌^◌}
 use Rattle.sb_instance.specs.Asked.{Answers, is_first_path}
 use Rattle.sb_instance.specs.Running.{IsDone}
 use Rattle.sb_log.specs.declared.entries.Entry.{Entry}
-use Rattle.sb_log.specs.declared.identifiers.Who.TheVariants.{A, B}
 use Rattle.sb_log.specs.declared.refusals.Refusal.{Refusal}
 use Rattle.sb_log.specs.declared.refusals.Refusal.TheVariants as refusal
 use Rattle.sb_log.specs.declared.requests.Reply.{Reply}
@@ -13,12 +12,10 @@ use Rattle.sb_log.specs.declared.requests.Request.TheVariants as request
 use Rattle.sb_log.specs.declared.steps.Answer.{Answer}
 use Rattle.sb_log.specs.declared.steps.Answer.TheVariants as answer
 use Rattle.sb_log.specs.declared.steps.Event.TheVariants as event
-use Rattle.sb_log.specs.declared.steps.Step.{Step}
-use Rattle.sb_model.specs.Histories.{Gives, outcome, next}
-use Rattle.sb_model.specs.Instance.{Luck, Works, Fails, Part, Done, append, append_to, written, luck_at, no_room, refused, grown}
+use Rattle.sb_model.specs.Instance.{Luck, Works, Fails, Part, Done, append, append_to, written, luck_at, no_room, refused}
 use Rattle.sb_model.specs.Replies.{Planned, plan}
-use Rattle.sb_model.specs.Statements.{session_step, session_request, planned_step, at_once, drew_tx, ask, txn_entries, session_open, commit_counts, draws, is_session}
-use Rattle.sb_model.specs.Steps.{luck_of, failed}
+use Rattle.sb_model.specs.Statements.{session_step, planned_step, at_once, drew_tx, ask, txn_entries, session_open, commit_counts, draws, is_session}
+use Rattle.sb_model.specs.Steps.{luck_of}
 use Rattle.sb_laws.specs.Fresh.{spells_low}
 use Rattle.sb_model.specs.Sizes.{record_size}
 use Rattle.sb_model.specs.Transactions.{OpenTransaction}

@@ -1,5 +1,5 @@
 -- Delivery after each step of a legal and quiet history.
-use Rattle.std.proofs.Common.{◌≡◌, ℕ, zero, suc, ◌+◌, ◌≤◌, ◌^◌, Bool, true, false, List, [], ◌∷◌, ◌++◌, length, take, None, refl, sym, ap, ◌∙◌, subst, append-nil, arith}
+use Rattle.std.proofs.Common.{◌≡◌, ℕ, zero, suc, ◌≤◌, ◌^◌, Bool, true, false, List, [], ◌∷◌, length, take, None, refl, ◌∙◌, subst, append-nil, arith}
 use Rattle.std.specs.Prelude.{IsTrue, ◌&&◌}
 use Rattle.std.specs.List.{list_all}
 use Rattle.std.proofs.lemmas.List.{length-take}
@@ -14,13 +14,15 @@ use Rattle.sb_log.specs.declared.identifiers.SideId.{SideId}
 use Rattle.sb_log.specs.declared.identifiers.Who.TheVariants.{A, B}
 use Rattle.sb_log.specs.declared.steps.Step.{Step}
 use Rattle.sb_model.specs.Histories.{CommitsWhole, Legal, after, at_most, kept, next}
-use Rattle.sb_model.specs.Links.{DeliversInOrder, ReceivesInOrder, both}
+use Rattle.sb_model.specs.Links.{ReceivesInOrder}
 use Rattle.sb_model.specs.Sides.{has_side}
 use Rattle.sb_model.specs.Steps.{World, part}
 use Rattle.sb_model.specs.Survival.{Survives}
 use Rattle.sb_top.specs.Following.{first}
 use Rattle.sb_top.specs.Laws.{DeliversThroughout}
-use Rattle.sb_top.specs.Runs.{IsQuiet, most_steps}
+use Rattle.sb_top.specs.Room.{HasRoomThroughout}
+use Rattle.sb_top.specs.Runs.{IsQuiet}
+use Rattle.sb_top.proofs.Histories.{few_steps}
 
 legal-take : (w : World) (n : ℕ) (steps : List Step) → Legal w steps → Legal w (take n steps)
 legal-take w zero steps h = tt
@@ -60,12 +62,12 @@ delivered_now steps legal quiet short s there =
     let delivers = delivered_after ready_log [] None None steps starts_linked longer legal (fresh_of steps quiet short) (kept (after first steps) A) (kept (after first steps) B) (survives_itself (after first steps) A) (survives_itself (after first steps) B) in
     delivers A A s there (λ target split. let nowhere : false ≡ true = subst (λ p. IsTrue (has_side p.log s)) (b_of_quiet first steps quiet) split in cc)
 
-pub delivered_throughout : (history : List Step) → Legal first history → IsQuiet first history → length history ≤ most_steps → DeliversThroughout first history
-delivered_throughout history legal quiet short = λ n s there.
-    delivered_now (take n history) (legal-take first n history legal) (quiet-take first n history quiet) (omega (arith, length-take n history)) s there
+pub delivered_throughout : (history : List Step) → Legal first history → IsQuiet first history → HasRoomThroughout history → DeliversThroughout first history
+delivered_throughout history legal quiet roomy = λ n s there.
+    delivered_now (take n history) (legal-take first n history legal) (quiet-take first n history quiet) (omega (arith, few_steps history roomy, length-take n history)) s there
 
 -- the operations of each transaction stand in one entry
-pub commits_whole : (history : List Step) → Legal first history → IsQuiet first history → length history ≤ most_steps → CommitsWhole first history
-commits_whole history legal quiet short =
-    let longer : length history ≤ 2 ^ 60 = omega arith in
-    whole_along ready_log [] None None history starts_linked longer legal (fresh_of history quiet (omega arith))
+pub commits_whole : (history : List Step) → Legal first history → IsQuiet first history → HasRoomThroughout history → CommitsWhole first history
+commits_whole history legal quiet roomy =
+    let longer : length history ≤ 2 ^ 60 = omega (arith, few_steps history roomy) in
+    whole_along ready_log [] None None history starts_linked longer legal (fresh_of history quiet (omega (arith, few_steps history roomy)))

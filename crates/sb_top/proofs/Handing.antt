@@ -17,7 +17,7 @@ use Rattle.sb_log.specs.declared.refusals.Refusal.{Refusal}
 use Rattle.sb_log.specs.declared.steps.Answer.{Answer}
 use Rattle.sb_log.specs.declared.identifiers.SideId.{SideId}
 use Rattle.sb_log.specs.declared.identifiers.Who.{Who}
-use Rattle.sb_log.specs.declared.identifiers.Who.TheVariants.{A, B}
+use Rattle.sb_log.specs.declared.identifiers.Who.TheVariants.{A}
 use Rattle.sb_log.specs.declared.messages.Content.{Content}
 use Rattle.sb_log.specs.declared.messages.Data.{Data}
 use Rattle.sb_log.specs.declared.steps.Step.{Step}
@@ -31,13 +31,13 @@ use Rattle.sb_model.specs.Frames.{destination, far_instance}
 use Rattle.sb_model.specs.Groups.{far_service}
 use Rattle.sb_model.specs.Matches.{best_by}
 use Rattle.sb_model.specs.Routes.{route_fit, route_fits}
-use Rattle.sb_model.specs.Histories.{Gives, outcome, next, world_of as world_after}
-use Rattle.sb_model.specs.Instance.{Luck, Works, Fails, Part, append, append_to, written, luck_at, no_room, grown}
+use Rattle.sb_model.specs.Histories.{Gives, world_of as world_after}
+use Rattle.sb_model.specs.Instance.{Luck, Works, Fails, Part, append_to, written, luck_at, no_room, grown}
 use Rattle.sb_model.specs.Messages.{accepted, content_of_send, end_of_op, final_content, first_of, numbered}
 use Rattle.sb_model.specs.Sides.{Making, made_by, is_of, ops_of, ops_of_entry, partner, same_who, sides}
 use Rattle.sb_model.specs.Statements.{draws}
 use Rattle.sb_model.specs.Sides.{made}
-use Rattle.sb_model.specs.Steps.{Stepped, accept_data, data_entry, hand_over, handed, new_handle, on_part, to_hand_over, verdict_told}
+use Rattle.sb_model.specs.Steps.{accept_data, data_entry, hand_over, handed, new_handle, on_part, to_hand_over, verdict_told}
 use Rattle.sb_top.specs.Following.{handed_over}
 use Rattle.sb_top.specs.Runs.{IsPending, IsPlain, IsStep, Keeps, world_of}
 use Rattle.sb_top.proofs.Asking.{append_plain}

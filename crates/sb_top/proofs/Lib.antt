@@ -8,3 +8,4 @@ pub mod Histories
 pub mod Picking
 pub mod Refusing
 pub mod Writing
+pub mod Unbuilt

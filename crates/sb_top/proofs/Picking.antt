@@ -1,9 +1,9 @@
 -- Each RECEIVE of a legal history gives what is picked.
-use Rattle.std.proofs.Common.{◌≡◌, ℕ, zero, suc, cond, eq-eqb, ◌+◌, ◌%◌, ◌^◌, Bool, true, false, List, [], ◌∷◌, ◌++◌, Option, Some, None, Result, Ok, Err, refl, sym, ap, ◌∙◌, subst, append-nil}
-use Rattle.std.specs.Prelude.{IsTrue, ℤ, pos, negsuc, nat_abs, filter, find, map, if◌then◌else◌, not, option_and_then, option_map}
+use Rattle.std.proofs.Common.{◌≡◌, ℕ, zero, suc, cond, eq-eqb, ◌+◌, Bool, true, false, List, [], ◌∷◌, ◌++◌, Option, Some, None, Ok, Err, refl, sym, ap, ◌∙◌, append-nil}
+use Rattle.std.specs.Prelude.{ℤ, pos, negsuc, nat_abs, filter, find, map, if◌then◌else◌, not, option_and_then, option_map}
 use Rattle.sb_log.specs.declared.entries.Entry.{Entry}
 use Rattle.sb_log.specs.declared.identifiers.Who.{Who}
-use Rattle.sb_log.specs.declared.identifiers.Who.TheVariants.{A, B}
+use Rattle.sb_log.specs.declared.identifiers.Who.TheVariants.{A}
 use Rattle.sb_log.specs.declared.identifiers.Actor.{Actor}
 use Rattle.sb_log.specs.declared.identifiers.Actor.TheVariants as actor
 use Rattle.std.specs.Option.{option_eq}
@@ -15,7 +15,6 @@ use Rattle.sb_log.specs.declared.requests.Filter.{Filter}
 use Rattle.sb_log.specs.declared.requests.Filter.TheVariants as filters
 use Rattle.sb_log.specs.declared.requests.Reply.{Reply}
 use Rattle.sb_log.specs.declared.requests.Reply.TheVariants as reply
-use Rattle.sb_log.specs.declared.requests.Request.{Request}
 use Rattle.sb_log.specs.declared.requests.Request.TheVariants as request
 use Rattle.sb_log.specs.declared.steps.Answer.{Answer}
 use Rattle.sb_log.specs.declared.steps.Answer.TheVariants as answer
@@ -23,12 +22,12 @@ use Rattle.sb_log.specs.declared.steps.Event.{Event}
 use Rattle.sb_log.specs.declared.steps.Event.TheVariants as event
 use Rattle.sb_log.specs.declared.steps.Step.{Step}
 use Rattle.sb_model.specs.Histories.{Gives, Legal, next, world_of as world_after}
-use Rattle.sb_model.specs.Instance.{Luck, Works, Fails, Part, Done, append, append_to, written, luck_at, no_room, no_room_behind, refused}
+use Rattle.sb_model.specs.Instance.{Luck, Works, Fails, Part, Done, append, append_to, written, luck_at, no_room, refused}
 use Rattle.sb_model.specs.Groups.{group_of}
 use Rattle.sb_model.specs.Pick.{Pick, first_items, pick_first}
 use Rattle.sb_model.specs.Catalog.{find_queue, is_on}
 use Rattle.sb_model.specs.Refusals.{need, refuse_if, unless_refused, when}
-use Rattle.sb_model.specs.Replies.{Ask, Plan, Planned, given_item, plan, planned, receive, received, seen, took, with_filter, with_open_queue, with_optional_number}
+use Rattle.sb_model.specs.Replies.{Ask, Plan, Planned, given_item, plan, planned, receive, received, seen, with_filter, with_open_queue, with_optional_number}
 use Rattle.sb_model.specs.Sides.{Bytes, same_id}
 use Rattle.sb_model.specs.Statements.{at_once, ask, commit_counts, draws, drew_tx, is_session, planned_step, session_open, session_step, txn_entries}
 use Rattle.sb_model.specs.Steps.{World, step}

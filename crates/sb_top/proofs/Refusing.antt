@@ -1,5 +1,5 @@
 -- Want of memory is no refusal that the definitions give.
-use Rattle.std.proofs.Common.{◌≡◌, ℕ, Bool, true, false, List, [], ◌∷◌, Option, Some, None, Result, Ok, Err, refl, sym, ap, ◌∙◌}
+use Rattle.std.proofs.Common.{◌≡◌, ℕ, Bool, true, false, List, [], ◌∷◌, Option, Some, None, Ok, Err, ap}
 use Rattle.std.specs.Prelude.{IsTrue, ℤ, nat_abs, nat_lt, ◌&&◌, find, if◌then◌else◌, not, option_and_then, option_map, unwrap_or}
 use Rattle.sb_instance.specs.Asked.{is_first_path}
 use Rattle.sb_log.specs.declared.definitions.MessageDef.{MessageDef}
@@ -22,7 +22,7 @@ use Rattle.sb_model.specs.Catalog.{default_name, find_contract, find_message_typ
 use Rattle.sb_model.specs.Instance.{Luck, Works, Fails, Part, append, append_to, written, luck_at, no_room, no_room_behind, refused, Done}
 use Rattle.sb_model.specs.Pick.{Pick, pick}
 use Rattle.sb_model.specs.Refusals.{need, refuse_if, unless_refused, when}
-use Rattle.sb_model.specs.Replies.{Ask, Plan, Planned, body_length, contract_of, in_state, live, own_group, planned, seen, plan, receive, received, send, send_typed, with_filter, with_group, with_number, with_open_queue, with_optional_number, with_side}
+use Rattle.sb_model.specs.Replies.{Ask, Plan, Planned, body_length, contract_of, in_state, live, own_group, planned, seen, plan, receive, received, send, send_typed, with_filter, with_group, with_open_queue, with_optional_number, with_side}
 use Rattle.sb_model.specs.Sides.{Bytes}
 use Rattle.sb_model.specs.Statements.{at_once, ask, commit_counts, draws, drew_tx, is_session, planned_step, session_open, session_step, txn_entries}
 use Rattle.sb_model.specs.States.{may_send, state_of}

@@ -1,16 +1,18 @@
 -- How a run ends, what stands in the sink then, and what the source had.
-use Rattle.std.specs.Prelude.{◌≡◌, ⊤, ℕ, ◌≤◌, ◌⊎◌, Bool, true, false, List, [], ◌∷◌, length, Option, Some, Result, Ok, Err, codes, IsOk, IsTrue}
+use Rattle.std.specs.Prelude.{◌≡◌, ⊤, ℕ, ◌≤◌, ◌⊎◌, Bool, true, false, nat_eq, List, [], ◌∷◌, length, Option, Some, Ok, Err, codes}
 use Rattle.std.specs.Cmp.Lexicographic.{pointwise}
-use Rattle.std.specs.Prelude.{nat_eq}
 use Rattle.std.specs.Io.KnownBytes.{Appends, Keeps, Consumes, IsAtEnd}
 use Rattle.sb_log.specs.declared.steps.Step.{Step}
-use Rattle.sb_top.specs.Following.{Follows, FollowsSoFar}
-use Rattle.sb_top.specs.Script.{bad_line, limit, script}
-use Rattle.sb_top.specs.Transcript.{text_of}
+use Rattle.sb_script.specs.Script.{ScriptSays, bad_line, limit}
+use Rattle.sb_script.specs.declared.commands.BadWhy.{BadWhy}
+use Rattle.sb_script.specs.declared.commands.Command.{Command}
+use Rattle.sb_show.specs.Transcript.{transcript}
+use Rattle.sb_show.specs.Values.{capped}
+use Rattle.sb_top.specs.Following.{Follows, FollowsSoFar, FollowsUpToMore}
+use Rattle.sb_top.specs.Room.{is_full}
 use Rattle.sb_top.specs.Writing.{IsWritten}
 use Rattle.sb_top.specs.declared.ending.Why.{Why}
 use Rattle.sb_top.specs.declared.ending.Why.TheVariants as why
-use Rattle.sb_top.specs.declared.script.Command.{Command}
 
 -- the words of the command line are `steps` alone
 abbrev pub is_steps : List (List ℕ) → Bool
@@ -26,6 +28,7 @@ status_of why.Usage = 2
 status_of why.ReadFault = 3
 status_of why.WriteFault = 4
 status_of why.OutOfMemory = 5
+status_of (why.HistoryFull bytes steps) = 8
 
 -- the name of the reason
 abbrev pub name_of : Why → List ℕ
@@ -35,6 +38,7 @@ name_of why.Usage = codes "Usage"
 name_of why.ReadFault = codes "ReadFault"
 name_of why.WriteFault = codes "WriteFault"
 name_of why.OutOfMemory = codes "OutOfMemory"
+name_of (why.HistoryFull bytes steps) = codes "HistoryFull"
 
 -- ---- what is written
 
@@ -46,12 +50,13 @@ pub record IsIdle (old new : Option (List ℕ)) (history : List Step) (whole : �
 
 -- the whole transcript was written
 pub record IsTold (old new : Option (List ℕ)) (history : List Step) (whole : ℕ) : Type 0 where
-  pub text : Appends old new (text_of history)
+  pub text : Appends old new (transcript history)
   pub all : whole ≡ length history
 
 -- what was written of a history
 abbrev pub Wrote : Why → Option (List ℕ) → Option (List ℕ) → List Step → ℕ → Type 0
 Wrote why.Fine old new history whole = IsTold old new history whole
+Wrote (why.HistoryFull bytes steps) old new history whole = IsTold old new history whole
 Wrote why.WriteFault old new history whole = IsWritten old new history whole
 Wrote why.OutOfMemory old new history whole = IsWritten old new history whole
 Wrote (why.Script line bad) old new history whole = IsIdle old new history whole
@@ -72,22 +77,19 @@ pub record IsRead (old new : Option (List ℕ)) (bytes : List ℕ) : Type 0 wher
 
 -- the source was read, its bytes are a script, and its commands are so
 abbrev pub ReadsScript : Option (List ℕ) → Option (List ℕ) → (List Command → Type 0) → Type 0
-ReadsScript old new P = (bytes : List ℕ) × (commands : List Command) × IsRead old new bytes × (script bytes ≡ Ok commands) × P commands
+ReadsScript old new P = (bytes : List ℕ) × (commands : List Command) × IsRead old new bytes × ScriptSays bytes (Ok commands) × P commands
 
--- Fine: the source was read to its end, and the history follows its script
-pub record HasFollowed (old new : Option (List ℕ)) (history : List Step) : Type 0 where
+-- the source was read to its end, and the history is one of its script
+pub record HasFollowed (old new : Option (List ℕ)) (so : List Command → Type 0) : Type 0 where
   pub at_end : IsAtEnd new
-  pub follows : ReadsScript old new (λ commands. Follows commands history)
+  pub follows : ReadsScript old new so
 
--- the history is a beginning of one that follows the script; where memory was wanting before, it is empty
-abbrev pub HasFollowedSoFar : Option (List ℕ) → Option (List ℕ) → List Step → Type 0
-HasFollowedSoFar old new history = ReadsScript old new (λ commands. FollowsSoFar commands history)
-
--- how the history follows the script
+-- how the history follows the script; where memory was wanting before, it is empty
 abbrev pub Followed : Why → Option (List ℕ) → Option (List ℕ) → List Step → Type 0
-Followed why.Fine old new history = HasFollowed old new history
-Followed why.WriteFault old new history = HasFollowedSoFar old new history
-Followed why.OutOfMemory old new history = (history ≡ []) ⊎ HasFollowedSoFar old new history
+Followed why.Fine old new history = HasFollowed old new (λ commands. Follows commands history)
+Followed (why.HistoryFull bytes steps) old new history = HasFollowed old new (λ commands. FollowsUpToMore commands history)
+Followed why.WriteFault old new history = ReadsScript old new (λ commands. FollowsSoFar commands history)
+Followed why.OutOfMemory old new history = (history ≡ []) ⊎ ReadsScript old new (λ commands. FollowsSoFar commands history)
 Followed (why.Script line bad) old new history = history ≡ []
 Followed why.Usage old new history = history ≡ []
 Followed why.ReadFault old new history = history ≡ []
@@ -95,6 +97,7 @@ Followed why.ReadFault old new history = history ≡ []
 -- how a run of these commands ends, and how its history follows them
 abbrev pub Ran : Why → List Command → List Step → Type 0
 Ran why.Fine commands history = Follows commands history
+Ran (why.HistoryFull bytes steps) commands history = FollowsUpToMore commands history
 Ran why.WriteFault commands history = FollowsSoFar commands history
 Ran why.OutOfMemory commands history = FollowsSoFar commands history
 Ran (why.Script line bad) commands history = ⊥
@@ -103,15 +106,27 @@ Ran why.ReadFault commands history = ⊥
 
 -- ---- why
 
+-- these bytes say nothing but this refusal
+pub record IsRefused (bytes : List ℕ) (line : ℕ) (bad : BadWhy) : Type 0 where
+  pub says : ScriptSays bytes (Err (bad_line line bad))
+  pub no_script : (commands : List Command) → ScriptSays bytes (Ok commands) → ⊥
+
 -- Script: the bytes that were read are no script, by this line and for this reason
 abbrev pub HasBadScript : Why → Option (List ℕ) → Option (List ℕ) → Type 0
-HasBadScript (why.Script line bad) old new = (bytes : List ℕ) × IsRead old new bytes × (script bytes ≡ Err (bad_line line bad))
+HasBadScript (why.Script line bad) old new = (bytes : List ℕ) × IsRead old new bytes × IsRefused bytes line bad
 HasBadScript _ old new = ⊤
 
-abbrev pub IsScript : List ℕ → Type 0
-IsScript bytes = IsOk (script bytes)
+-- HistoryFull: the history is full, and has so many bytes, at most 2^64 - 1, and steps
+abbrev pub HasFilled : Why → List Step → Type 0
+HasFilled (why.HistoryFull bytes steps) history =
+    (is_full history ≡ true) × (bytes ≡ capped (length (transcript history))) × (steps ≡ length history)
+HasFilled _ history = ⊤
 
--- with the word, a script and no fault the status is 0, or 5 where memory was wanting
+abbrev pub IsScript : List ℕ → Type 0
+IsScript bytes = (commands : List Command) × ScriptSays bytes (Ok commands)
+
+-- with the word, a script and no fault the status is 0, or 5 where memory was wanting, or 8 where the history was full
 abbrev pub Completes : Bool → Option (List ℕ) → Type 0 → Type 0 → ℕ → Type 0
 Completes word left read_fault write_fault status =
-    (bytes : List ℕ) → word ≡ true → left ≡ Some bytes → IsScript bytes → (read_fault → ⊥) → (write_fault → ⊥) → (status ≡ 0) ⊎ (status ≡ 5)
+    (bytes : List ℕ) → word ≡ true → left ≡ Some bytes → IsScript bytes → (read_fault → ⊥) → (write_fault → ⊥)
+    → (status ≡ 0) ⊎ (status ≡ 5) ⊎ (status ≡ 8)

@@ -10,7 +10,6 @@ use Rattle.sb_log.specs.declared.messages.ReceivedItem.{ReceivedItem}
 use Rattle.sb_log.specs.declared.requests.Filter.{Filter}
 use Rattle.sb_log.specs.declared.requests.Reply.{Reply}
 use Rattle.sb_log.specs.declared.requests.Reply.TheVariants as reply
-use Rattle.sb_log.specs.declared.requests.Request.{Request}
 use Rattle.sb_log.specs.declared.requests.Request.TheVariants as request
 use Rattle.sb_log.specs.declared.steps.Answer.{Answer}
 use Rattle.sb_log.specs.declared.steps.Answer.TheVariants as answer

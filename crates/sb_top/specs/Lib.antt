@@ -1,5 +1,4 @@
-pub mod Script
-pub mod Transcript
+pub mod Room
 pub mod Following
 pub mod Writing
 pub mod Ends

@@ -1,5 +1,9 @@
 -- How a history goes on.
-use Rattle.std.specs.Prelude.{◌≡◌, ⊤, IsTrue, ℕ, ◌≤◌, ◌^◌, length, true, List, [], ◌∷◌, ◌++◌, None, Some, Result, Ok, Err}
+use Rattle.std.specs.Prelude.{◌≡◌, ◌⊎◌, ⊤, IsTrue, ℕ, ◌^◌, length, Bool, true, List, [], ◌∷◌, ◌++◌, None, Some, Result, Ok, Err}
+use Rattle.sb_grammar.specs.declared.tree.Statement.{Statement}
+use Rattle.sb_log.specs.declared.identifiers.Actor.{Actor}
+use Rattle.sb_log.specs.declared.identifiers.Actor.TheVariants as actor
+use Rattle.sb_log.specs.declared.steps.Answer.{Answer}
 use Rattle.sb_log.specs.declared.identifiers.SideId.{SideId}
 use Rattle.sb_log.specs.declared.steps.Verdict.{Verdict}
 use Rattle.sb_instance.specs.declared.handing.Pending.{Pending}
@@ -8,7 +12,14 @@ use Rattle.sb_model.specs.Catalog.{definitions}
 use Rattle.sb_model.specs.Messages.{numbered}
 use Rattle.sb_model.specs.Frames.{destination}
 use Rattle.sb_model.specs.Sides.{Making, made, same_who}
-use Rattle.sb_top.specs.Following.{first, handed_over}
+use Rattle.sb_top.specs.Following.{IsStepOf, first, first_session, handed_over, is_refused, not_yet}
+use Rattle.sb_top.specs.Room.{HasRoomThroughout}
+use Rattle.sb_show.specs.Transcript.{transcript}
+use Rattle.sb_show.specs.Values.{capped}
+use Rattle.sb_top.specs.declared.ending.Why.{Why}
+use Rattle.sb_top.specs.declared.ending.Why.TheVariants as why
+use Rattle.sb_top.specs.declared.history.Stopped.{Stopped}
+use Rattle.sb_top.specs.declared.history.Stopped.TheVariants as stopped
 use Rattle.sb_log.specs.declared.identifiers.Who.TheVariants.{A, B}
 use Rattle.sb_log.specs.declared.steps.Step.{Step}
 use Rattle.sb_model.specs.Histories.{Gives, Legal, after, next, outcome}
@@ -38,34 +49,58 @@ pub record IsStep (p : Part) (step : Step) (new : Part) : Type 0 where
   pub plain : IsPlain new
   pub low : IsTrue (spells_low (2 ^ 61) step.event)
 
--- more steps than any memory holds
-abbrev pub most_steps : ℕ
-most_steps = 2 ^ 40
-
 -- a history went on by steps that are so, each with its right answer, and the instance A with it
 pub record GoesOn (before : Part) (history : List Step) (now : Part) (longer : List Step) (are_so : List Step → Type 0) : Type 0 where
   pub more : List Step
   pub longer_is : longer ≡ history ++ more
-  pub within : length history ≤ most_steps → length longer ≤ most_steps
+  pub roomy : HasRoomThroughout history → HasRoomThroughout longer
   pub legal : Legal (world_of before) more
   pub state : world_of now ≡ after (world_of before) more
   pub plain : IsPlain now
   pub quiet : IsQuiet (world_of before) more
   pub so : are_so more
 
--- all steps were made, or a beginning of them where memory was wanting
-abbrev pub Made : {T E : Type 0} → Result T E → (List Step → Type 0) → List Step → Type 0
+-- what stopped left out: a step was to come where the history was full
+abbrev pub WasToCome : Stopped → List Step → Type 0
+WasToCome stopped.HistoryFull more = more ≡ [] → ⊥
+WasToCome stopped.OutOfMemory more = ⊤
+
+-- a beginning of such steps
+abbrev pub Begins : Stopped → (List Step → Type 0) → List Step → Type 0
+Begins why P steps = (more : List Step) × WasToCome why more × P (steps ++ more)
+
+-- all steps were made, or a beginning of them
+abbrev pub Made : {T : Type 0} → Result T Stopped → (List Step → Type 0) → List Step → Type 0
 Made (Ok x) P steps = P steps
-Made (Err e) P steps = (more : List Step) × P (steps ++ more)
+Made (Err why) P steps = Begins why P steps
 
 -- whatever does the rest completes the whole
 abbrev pub GoesBefore : (List Step → Type 0) → (List Step → Type 0) → List Step → Type 0
 GoesBefore rest whole steps = (more : List Step) → rest more → whole (steps ++ more)
 
--- the one step of a hand-over, or none where memory was wanting
-abbrev pub HandedOne : {E : Type 0} → SideId → ℕ → Result Verdict E → List Step → Type 0
+-- the one step of a hand-over, or none
+abbrev pub HandedOne : SideId → ℕ → Result Verdict Stopped → List Step → Type 0
 HandedOne s number (Ok v) steps = steps ≡ handed_over s number (verdict_told v) ∷ []
-HandedOne s number (Err e) steps = steps ≡ []
+HandedOne s number (Err why) steps = steps ≡ []
+
+-- one step, by whether it was refused, or none
+abbrev pub StepMade : (Answer → Step) → Result Bool Stopped → List Step → Type 0
+StepMade step (Ok refused) steps = (given : Answer) × (steps ≡ step given ∷ []) × (refused ≡ is_refused given)
+StepMade step (Err why) steps = steps ≡ []
+
+-- the one step of a statement, by whether it was refused, or none
+abbrev pub DoneOne : World → Statement → Result Bool Stopped → List Step → Type 0
+DoneOne w s (Ok refused) steps = (step : Step) × (steps ≡ step ∷ []) × IsStepOf w s step × (refused ≡ is_refused step.answer)
+DoneOne w s (Err why) steps = steps ≡ []
+
+-- the one step of what isn't built, or none
+abbrev pub RefusedOne : {T : Type 0} → Actor → List ℕ → Result T Stopped → List Step → Type 0
+RefusedOne who words (Ok done) steps = steps ≡ not_yet who words ∷ []
+RefusedOne who words (Err why) steps = steps ≡ []
+
+-- session 1 of A, or the world
+abbrev pub MayNotYet : Actor → Type 0
+MayNotYet who = (who ≡ first_session) ⊎ (who ≡ actor.World)
 
 -- what sides have to hand over stays
 pub record Keeps (p q : Part) : Type 0 where
@@ -81,8 +116,13 @@ pub record IsPending (p : Part) (x : Pending) : Type 0 where
   pub here : same_who (destination p.who p.log making) p.who ≡ true
   pub numbered_is : x.numbered ≡ length (numbered p.log x.side)
 
--- a history from the first state that is legal, quiet and short
+-- a history from the first state that is legal and quiet, and never had too many steps
 pub record IsSound (history : List Step) : Type 0 where
   pub legal : Legal first history
   pub quiet : IsQuiet first history
-  pub within : length history ≤ most_steps
+  pub roomy : HasRoomThroughout history
+
+-- why a run that stopped so ends, with its bytes and steps where the history was full
+abbrev pub IsStopping : Stopped → List Step → Why → Type 0
+IsStopping stopped.OutOfMemory history w = w ≡ why.OutOfMemory
+IsStopping stopped.HistoryFull history w = w ≡ why.HistoryFull (capped (length (transcript history))) (length history)

@@ -5,16 +5,17 @@ ghost use Rattle.sb_laws.specs.Ready.{ready_log};
 ghost use Rattle.sb_log.specs.declared.identifiers.Who.TheVariants.{A};
 ghost use Rattle.sb_model.specs.Instance.{opened};
 ghost use Rattle.sb_outside.specs.Causes.{Rose};
-ghost use Rattle.sb_top.specs.Ends.{Ran, Wrote, status_of};
-ghost use Rattle.sb_top.specs.Runs.{IsSound};
+ghost use Rattle.sb_top.specs.Ends.{HasFilled, Ran, Wrote, status_of};
+ghost use Rattle.sb_top.specs.Runs.{IsSound, IsStopping};
 
 use crate::ending::{Ended, Why, end};
-use crate::history::perform;
+use crate::history::{History, Stopped};
 use crate::output::write_steps;
-use crate::script::Command;
+use crate::perform::perform;
 use sb_instance::Instance;
 use sb_log::Step;
 use sb_outside::Sink;
+use sb_script::Command;
 use std::alloc::Global;
 
 // The steps from this place on.
@@ -23,6 +24,19 @@ fn steps_from(steps: &[Step], from: usize) -> &[Step]
     ensures { result.now ≡ drop from steps.now }
 {
     &steps[from..]
+}
+
+// Why a run that stopped so ends.
+fn why_stopped(stopped: Stopped, history: &History) -> Why
+    ensures { IsStopping stopped history.now.steps result }
+{
+    match stopped {
+        Stopped::OutOfMemory => Why::OutOfMemory,
+        Stopped::HistoryFull => Why::HistoryFull {
+            bytes: history.bytes(),
+            steps: history.len() as u64,
+        },
+    }
 }
 
 /// Runs the commands, and writes the steps of each.
@@ -36,26 +50,40 @@ pub fn drive<K: Sink>(
     ensures sound { IsSound result.history.items }
     ensures ran { Ran result.why commands.now result.history.items }
     ensures text { Wrote result.why (K.written sink.old) (K.written sink.new) result.history.items result.written_steps }
+    ensures filled { HasFilled result.why result.history.items }
     ensures fault { result.why ≡ Why.WriteFault → Rose (K.faults sink.old) (K.faults sink.new) }
     ensures status { result.status ≡ status_of result.why }
 {
     let mut instance = instance;
-    let mut history = Vec::new(alloc);
+    let mut history = History::new(alloc);
     for command in commands {
         let written = history.len();
         let done = perform(alloc, &mut instance, &mut history, command);
-        match write_steps(alloc, sink, steps_from(history.as_slice(), written)) {
+        match write_steps(alloc, sink, steps_from(history.steps(), written)) {
             Ok(()) => {}
-            Err(unwritten) => return end(unwritten.why(), history, written + unwritten.whole),
+            Err(unwritten) => {
+                return end(
+                    unwritten.why(),
+                    history.into_steps(),
+                    written + unwritten.whole,
+                );
+            }
         }
         match done {
             Ok(()) => {}
-            Err(_) => {
-                let whole = history.len();
-                return end(Why::OutOfMemory, history, whole);
-            }
+            Err(stopped) => return stop(why_stopped(stopped, &history), history),
         }
     }
+    stop(Why::Fine, history)
+}
+
+// The end of a run whose transcript was written.
+fn stop(why: Why, history: History) -> Ended
+    ensures status { result.status ≡ status_of why }
+    ensures why { result.why ≡ why }
+    ensures history { result.history.items ≡ history.steps }
+    ensures written { result.written_steps ≡ length history.steps }
+{
     let whole = history.len();
-    end(Why::Fine, history, whole)
+    end(why, history.into_steps(), whole)
 }

@@ -3,8 +3,8 @@
 ghost use Rattle.std.specs.Prelude.{◌≡◌};
 ghost use Rattle.sb_top.specs.Ends.{name_of, status_of};
 
-use crate::script::BadWhy;
 use sb_log::Step;
+use sb_script::BadWhy;
 
 /// Why a run ended.
 #[derive(Clone, Copy, Debug, PartialEq, Eq)]
@@ -20,6 +20,9 @@ pub enum Why {
     /// The sink failed.
     WriteFault,
     OutOfMemory,
+    /// A step was to come, and the history was full: so many bytes of transcript, at most
+    /// 2^64 - 1, and so many steps.
+    HistoryFull { bytes: u64, steps: u64 },
 }
 
 impl Why {
@@ -34,6 +37,7 @@ impl Why {
             Why::ReadFault => "ReadFault",
             Why::WriteFault => "WriteFault",
             Why::OutOfMemory => "OutOfMemory",
+            Why::HistoryFull { .. } => "HistoryFull",
         }
     }
 
@@ -48,6 +52,7 @@ impl Why {
             Why::ReadFault => 3,
             Why::WriteFault => 4,
             Why::OutOfMemory => 5,
+            Why::HistoryFull { .. } => 8,
         }
     }
 }

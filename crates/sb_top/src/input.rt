@@ -1,11 +1,11 @@
 //! The whole of a source.
 
-ghost use Rattle.std.specs.Prelude.{◌≡◌, ◌≤◌, IfOk, IsErrOf};
+ghost use Rattle.std.specs.Prelude.{IfOk, IsErrOf};
 ghost use Rattle.sb_outside.specs.Causes.{Rose};
 ghost use Rattle.sb_top.specs.Ends.{IsRead};
 
-use crate::script::LIMIT;
 use sb_outside::{Failed, Source};
+use sb_script::LIMIT;
 use std::alloc::Global;
 
 /// Why a source wasn't read whole.

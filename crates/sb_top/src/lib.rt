@@ -1,16 +1,22 @@
 //! The top call of the broker: a script is read from a source, and its transcript goes to a sink.
 #![tactic(auto)]
 
+mod clean;
 mod drive;
 mod ending;
 mod first;
 mod history;
 mod input;
+mod not_built;
 mod output;
-mod script;
-mod show;
+mod perform;
+#[cfg(test)]
+mod plain_tests;
+mod statements;
 mod top;
+#[cfg(test)]
+mod top_tests;
 
 pub use ending::{Ended, Why};
-pub use script::{BadLine, BadWhy};
+pub use sb_script::BadWhy;
 pub use top::run;

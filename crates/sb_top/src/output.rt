@@ -2,15 +2,15 @@
 
 ghost use Rattle.std.specs.Prelude.{◌≡◌, ◌≤◌, ℕ, take, OnOk, OnErr, IfErr, IsTrue};
 ghost use Rattle.std.specs.Io.KnownBytes.{Appends};
-ghost use Rattle.sb_top.specs.Transcript.{text_of};
+ghost use Rattle.sb_show.specs.Transcript.{transcript};
 ghost use Rattle.sb_outside.specs.Causes.{HasCause, Rose};
 ghost use Rattle.sb_top.specs.Ends.{why_unwritten};
 ghost use Rattle.sb_top.specs.Writing.{IsWritten};
 
 use crate::ending::Why;
-use crate::show::show;
 use sb_log::Step;
 use sb_outside::{Failed, Sink};
+use sb_show::show;
 use std::alloc::Global;
 
 /// The transcript was not written whole: how many steps were, and whether the sink failed. Else
@@ -51,7 +51,7 @@ fn write_all<K: Sink>(sink: &mut K, bytes: &[u8]) -> Result<(), Failed>
 
 /// Writes the transcript of these steps.
 pub fn write_steps<K: Sink>(alloc: Global, sink: &mut K, steps: &[Step]) -> Result<(), Unwritten>
-    ensures ok { OnOk result (Appends (K.written sink.old) (K.written sink.new) (text_of steps.now)) }
+    ensures ok { OnOk result (Appends (K.written sink.old) (K.written sink.new) (transcript steps.now)) }
     ensures err { IfErr result (λ e. IsWritten (K.written sink.old) (K.written sink.new) steps.now e.whole) }
     ensures fault { IfErr result (λ e. IsTrue e.fault → Rose (K.faults sink.old) (K.faults sink.new)) }
     ensures later { K.faults sink.old ≤ K.faults sink.new }

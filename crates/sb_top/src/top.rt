@@ -3,7 +3,8 @@
 ghost use Rattle.std.specs.Prelude.{◌≡◌, ◌↔◌, false, map, string_bytes};
 ghost use Rattle.sb_model.specs.Histories.{CommitsWhole, Legal};
 ghost use Rattle.sb_outside.specs.Causes.{Rose};
-ghost use Rattle.sb_top.specs.Ends.{Completes, Followed, HasBadScript, Wrote, is_steps, status_of};
+ghost use Rattle.sb_top.specs.Ends.{Completes, Followed, HasBadScript, HasFilled, Wrote, is_steps, status_of};
+ghost use Rattle.sb_top.specs.Room.{HasRoomThroughout};
 ghost use Rattle.sb_top.specs.Following.{first};
 ghost use Rattle.sb_top.specs.Laws.{DeliversThroughout, PicksThroughout};
 ghost use Rattle.sb_top.specs.Runs.{IsSound};
@@ -12,9 +13,8 @@ use crate::drive::drive;
 use crate::ending::{Ended, Why, end};
 use crate::first;
 use crate::input::{Unread, read_all};
-use crate::script::{BadLine, NotRead, script};
-use sb_instance::Instance;
 use sb_outside::{Sink, Source};
+use sb_script::{ScriptRefused, script};
 use std::alloc::Global;
 
 /// Reads a script from the source, runs it, and writes its transcript to the sink.
@@ -48,10 +48,14 @@ pub fn run<S: Source, K: Sink>(
 
     ensures usage { (result.why ≡ Why.Usage) ↔ (is_steps (map (λ w. string_bytes w) words.now) ≡ false) }
     ensures script { HasBadScript result.why (S.left source.old) (S.left source.new) }
+    ensures filled { HasFilled result.why result.history.items }
     ensures read_fault { result.why ≡ Why.ReadFault → Rose (S.faults source.old) (S.faults source.new) }
     ensures write_fault { result.why ≡ Why.WriteFault → Rose (K.faults sink.old) (K.faults sink.new) }
 
-    // With the word, a script and no fault the whole script runs, but where memory is wanting.
+    // Each step came while the history had room.
+    ensures room { HasRoomThroughout result.history.items }
+
+    // With the word, a script and no fault the whole script runs, unless memory is wanting or the history is full.
     ensures complete { Completes (is_steps (map (λ w. string_bytes w) words.now)) (S.left source.old) (Rose (S.faults source.old) (S.faults source.new)) (Rose (K.faults sink.old) (K.faults sink.new)) result.status }
 {
     session(alloc, words, source, sink)
@@ -70,6 +74,7 @@ fn session<S: Source, K: Sink>(
     ensures sound { IsSound result.history.items }
     ensures usage { (result.why ≡ Why.Usage) ↔ (is_steps (map (λ w. string_bytes w) words.now) ≡ false) }
     ensures script { HasBadScript result.why (S.left source.old) (S.left source.new) }
+    ensures filled { HasFilled result.why result.history.items }
     ensures read_fault { result.why ≡ Why.ReadFault → Rose (S.faults source.old) (S.faults source.new) }
     ensures write_fault { result.why ≡ Why.WriteFault → Rose (K.faults sink.old) (K.faults sink.new) }
 {
@@ -82,10 +87,10 @@ fn session<S: Source, K: Sink>(
         Ok(bytes) => bytes,
     };
     let commands = match script(alloc, bytes.as_slice()) {
-        Err(NotRead::Refused(BadLine { line, why })) => {
+        Err(ScriptRefused::BadLine { line, why }) => {
             return end(Why::Script { line, why }, Vec::new(alloc), 0);
         }
-        Err(NotRead::OutOfMemory) => return end(Why::OutOfMemory, Vec::new(alloc), 0),
+        Err(ScriptRefused::OutOfMemory) => return end(Why::OutOfMemory, Vec::new(alloc), 0),
         Ok(commands) => commands,
     };
     match first::instance(alloc) {

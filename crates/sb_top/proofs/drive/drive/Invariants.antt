@@ -2,13 +2,13 @@ use Rattle.std.proofs.Common.{◌≤◌, [], drop}
 use Rattle.std.specs.Io.KnownBytes.{Appends}
 use Rattle.sb_top.specs.Following.{Does, Follows, InTurn}
 use Rattle.sb_top.specs.Runs.{GoesBefore, GoesOn, world_of}
-use Rattle.sb_top.specs.Transcript.{text_of}
+use Rattle.sb_show.specs.Transcript.{transcript}
 use Rattle.sb_top.proofs.drive.drive.Given as goal
 
 abbrev pub invariant-loop-command : goal.invariant-loop-command
 invariant-loop-command g l = record {
-  goes : GoesOn l.fn.instance [] l.instance l.history.items
+  goes : GoesOn l.fn.instance [] l.instance l.history.steps
       (GoesBefore (InTurn Does (world_of l.instance) (drop l.command-index l.commands)) (Follows l.commands));
-  so_far : Appends (g.K.Sink.written l.fn.sink) (g.K.Sink.written l.sink) (text_of l.history.items);
+  so_far : Appends (g.K.Sink.written l.fn.sink) (g.K.Sink.written l.sink) (transcript l.history.steps);
   later : g.K.Sink.faults l.fn.sink ≤ g.K.Sink.faults l.sink;
 }

@@ -12,11 +12,11 @@ returns-clause-complete g c = λ bytes word tells good no_read no_write.
     s.status s.usage s.script s.read_fault s.write_fault word tells good no_read no_write
 
 pub returns-clause-delivery : goal.returns-clause-delivery
-returns-clause-delivery g c = delivered_throughout c.session.result.history.items c.session.ensures.sound.legal c.session.ensures.sound.quiet c.session.ensures.sound.within
+returns-clause-delivery g c = delivered_throughout c.session.result.history.items c.session.ensures.sound.legal c.session.ensures.sound.quiet c.session.ensures.sound.roomy
 
 pub returns-clause-picks : goal.returns-clause-picks
 returns-clause-picks g c =
     picks_throughout first c.session.result.history.items (record { who = refl; up = refl; end = refl; closed = refl }) c.session.ensures.sound.legal c.session.ensures.sound.quiet
 
 pub returns-clause-whole : goal.returns-clause-whole
-returns-clause-whole g c = commits_whole c.session.result.history.items c.session.ensures.sound.legal c.session.ensures.sound.quiet c.session.ensures.sound.within
+returns-clause-whole g c = commits_whole c.session.result.history.items c.session.ensures.sound.legal c.session.ensures.sound.quiet c.session.ensures.sound.roomy
