@@ -10,8 +10,6 @@ mod input;
 mod not_built;
 mod output;
 mod perform;
-#[cfg(test)]
-mod plain_tests;
 mod statements;
 mod top;
 #[cfg(test)]

@@ -235,3 +235,45 @@ fn one_byte_a_call_is_enough(rt: HostRuntime) -> Result<(), Fail> {
     let Slow(_) = sink;
     Ok(())
 }
+
+// The transcript of so many rounds of ten SENDs, a `:clean` and a RECEIVE, told by counting.
+fn told(alloc: Global, rounds: u32) -> Result<String, Fail> {
+    let mut text = String::new(alloc);
+    for round in 0..rounds {
+        for _ in 0..10 {
+            text.push_str("A1 SEND: ok\n")?;
+        }
+        for message in 1..=10 {
+            let number = u64::from(round) * 10 + message;
+            let verdict = if number == 1 { "new" } else { "next" };
+            text.push_str(format!(in alloc;
+                "world hand over {DIALOG} i {number}: {verdict}\n"
+            )?.as_str())?;
+        }
+        let number = u64::from(round) + 1;
+        text.push_str("A1 RECEIVE: received 1\n")?;
+        text.push_str(format!(in alloc;
+            "  {number} a0000000-0000-0000-0000-000000000003 a0000000-0000-0000-0000-000000000004 [DEFAULT] 0x7700\n"
+        )?.as_str())?;
+    }
+    Ok(text)
+}
+
+#[test]
+fn two_thousand_sends_arrive_in_order(rt: HostRuntime) -> Result<(), Fail> {
+    let mut script = String::new(rt.alloc());
+    for _ in 0..200u64 {
+        for _ in 0..10u64 {
+            script.push_str(format!(in rt.alloc();
+                "SEND ON CONVERSATION '{DIALOG}' (N'w')\nGO\n"
+            )?.as_str())?;
+        }
+        script.push_str(":clean\nRECEIVE TOP (1) * FROM FarQ\nGO\n")?;
+    }
+    let (ended, sink) = ran(rt.alloc(), script.as_str(), &[], &[])?;
+    assert_eq!(rt; ended.status, 0);
+    assert_eq!(rt; ended.written_steps, 4200);
+    let want = told(rt.alloc(), 200)?;
+    assert_eq!(rt; sink.as_slice(), want.as_bytes());
+    Ok(())
+}
