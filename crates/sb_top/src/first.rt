@@ -79,7 +79,7 @@ pub fn instance(alloc: Global) -> Result<Instance, AllocError>
 }
 
 // Two queues, a service on each, and a dialog between the services.
-fn entries(alloc: Global) -> Result<Vec<Entry>, AllocError>
+pub fn entries(alloc: Global) -> Result<Vec<Entry>, AllocError>
     ensures { IfOk result (λ log. log.items ≡ ready.ready_log) }
 {
     let mut contracts = Names::new(alloc);

@@ -10,6 +10,8 @@ mod input;
 mod not_built;
 mod output;
 mod perform;
+#[cfg(test)]
+mod plain_tests;
 mod statements;
 mod top;
 #[cfg(test)]
