@@ -1,0 +1,3 @@
+pub mod Ranking
+pub mod Lists
+pub mod OfLogs

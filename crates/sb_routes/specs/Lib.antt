@@ -1,0 +1,3 @@
+pub mod Best
+pub mod Ways
+pub mod Taken
