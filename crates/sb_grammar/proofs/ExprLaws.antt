@@ -13,7 +13,7 @@ use Rattle.sb_grammar.specs.declared.word.Fixed.TheVariants as fixed
 use Rattle.sb_grammar.specs.Words.{is_fixed, fixed_at, example}
 use Rattle.sb_grammar.specs.Rules.{Rule, Toks, token, ended, alt, bind, map_rule, pure, Rests, most, Any}
 use Rattle.sb_grammar.specs.Values.{sign, word, kind}
-use Rattle.sb_grammar.specs.Exprs.{literal_of, literal, sign_of, joined, join_step, more_sum, sum_of, cast_of, operand, sum, comparison_of, NoSign, drop_unit, null_test, compare_by, relation, Plain, relation_maybe, test_by, inner_by, test_of, and_step, or_step, Ended, more_tests, conjunction_of, more_conjunctions, condition_of, bracket_by, bracketed_of, item, test, conjunction, condition}
+use Rattle.sb_grammar.specs.Exprs.{literal_of, literal, sign_of, joined, join_step, more_sum, sum_of, cast_of, operand, sum, comparison_of, NoSign, drop_unit, null_test, compare_by, relation, Plain, relation_maybe, test_by, inner_by, test_of, and, and_step, or, or_step, Ended, more_tests, conjunction_of, more_conjunctions, condition_of, bracket_by, bracketed_of, item, test, conjunction, condition}
 use Rattle.sb_grammar.proofs.Laws.{loop-min}
 use Rattle.sb_grammar.proofs.Sounds.{Sound, under, anywhere, pure-is, token-is, sign-is, map-is, word-is, ended-is, bind-is, then-is, alt-is, loop-is, chain-is}
 use Rattle.sb_grammar.proofs.ValueLaws.{kind-is}
@@ -137,14 +137,14 @@ unfolding test_of
 test_of-is i o s I O S = then-is i (test_by o s) NoSign I (test_by-is o s O S)
 
 and_step-is : (t : Rule Condition) → Sound t NoSign → (b : Unit {0}) (l : Condition) → Sound (and_step t b l) Ended
-and_step-is t T b l = map-is (conditions.And l) t Ended (under t NoSign Ended T (λ follow g. g.sign))
+and_step-is t T b l = map-is (and l) t Ended (under t NoSign Ended T (λ follow g. g.sign))
 
 conjunction_of-is : (t : Rule Condition) → Sound t NoSign → Sound (conjunction_of t) Ended
 unfolding conjunction_of
 conjunction_of-is t T = chain-is t most (fixed_at fixed.And) (and_step t) Ended (under t NoSign Ended T (λ follow g. g.sign)) (and_step-is t T) (λ follow g. g.also)
 
 or_step-is : (c : Rule Condition) → Sound c Ended → (b : Unit {0}) (l : Condition) → Sound (or_step c b l) Ended
-or_step-is c C b l = map-is (conditions.Or l) c Ended C
+or_step-is c C b l = map-is (or l) c Ended C
 
 condition_of-is : (c : Rule Condition) → Sound c Ended → Sound (condition_of c) Ended
 unfolding condition_of

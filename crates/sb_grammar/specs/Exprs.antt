@@ -1,5 +1,5 @@
 -- Expressions and conditions.
-use Rattle.std.specs.Prelude.{◌≡◌, ℕ, zero, suc, List, codes, Option, Some, None, if◌then◌else◌}
+use Rattle.std.specs.Prelude.{◌≡◌, ℕ, zero, suc, List, [], ◌∷◌, ◌++◌, codes, Option, Some, None, if◌then◌else◌}
 use Rattle.std.specs.Str.{str_eq_ignore_ascii_case}
 use Rattle.std.specs.Option.{option_map}
 use Rattle.sb_lex.specs.declared.token.TokenKind.{TokenKind}
@@ -9,9 +9,12 @@ use Rattle.sb_grammar.specs.declared.tree.Sign.{Sign}
 use Rattle.sb_grammar.specs.declared.tree.Sign.TheVariants as signs
 use Rattle.sb_grammar.specs.declared.tree.Comparison.{Comparison}
 use Rattle.sb_grammar.specs.declared.tree.Comparison.TheVariants as comparisons
-use Rattle.sb_grammar.specs.declared.tree.Expr.{Expr}
+use Rattle.sb_grammar.specs.declared.tree.Expr.{Expr, out-Expr}
+use Rattle.sb_grammar.specs.declared.tree.Expr.TheOpen.{Expr-F}
 use Rattle.sb_grammar.specs.declared.tree.Expr.TheVariants as e
-use Rattle.sb_grammar.specs.declared.tree.Condition.{Condition}
+use Rattle.sb_grammar.specs.declared.tree.Term.{Term, roll-Term}
+use Rattle.sb_grammar.specs.declared.tree.Condition.{Condition, out-Condition}
+use Rattle.sb_grammar.specs.declared.tree.Condition.TheOpen.{Condition-F}
 use Rattle.sb_grammar.specs.declared.tree.Condition.TheVariants as conditions
 use Rattle.sb_grammar.specs.declared.tree.Bracketed.{Bracketed}
 use Rattle.sb_grammar.specs.declared.tree.Bracketed.TheVariants.{Value, Test}
@@ -46,9 +49,13 @@ literal = token literal_of (example fixed.Null) e.Null
 unfoldable pub sign_of : Lexeme → Option Sign
 sign_of t = if is_fixed fixed.Plus t then Some signs.Plus else (if is_fixed fixed.Minus t then Some signs.Minus else None)
 
+abbrev pub joined_at : Expr → Term → Expr-F Expr Term → Expr
+joined_at l t (Expr-F.Sum first terms) = e.Sum first (terms ++ t ∷ [])
+joined_at l t _ = e.Sum l (t ∷ [])
+
+-- a sum gets one more term; what else stands before the sign begins one
 abbrev pub joined : Sign → Expr → Expr → Expr
-joined signs.Plus l r = e.Add l r
-joined signs.Minus l r = e.Subtract l r
+joined s l r = joined_at l (roll-Term (record { sign = s; operand = r })) (out-Expr l)
 
 abbrev pub join_step : Rule Expr → Sign → Expr → Rule Expr
 join_step operand s l = map_rule (joined s l) operand
@@ -139,11 +146,27 @@ inner_by operand sum (Value v) = bind (more_sum operand v) (relation_maybe sum) 
 unfoldable pub test_of : Rule Bracketed → Rule Expr → Rule Expr → Rule Condition
 test_of item operand sum = bind item (test_by operand sum) NoSign
 
+abbrev pub and_at : Condition → Condition → Condition-F Condition → Condition
+and_at l r (Condition-F.All tests) = conditions.All (tests ++ r ∷ [])
+and_at l r _ = conditions.All (l ∷ r ∷ [])
+
+-- one more condition joined by AND
+abbrev pub and : Condition → Condition → Condition
+and l r = and_at l r (out-Condition l)
+
 abbrev pub and_step : Rule Condition → Unit {0} → Condition → Rule Condition
-and_step test _ l = map_rule (conditions.And l) test
+and_step test _ l = map_rule (and l) test
+
+abbrev pub or_at : Condition → Condition → Condition-F Condition → Condition
+or_at l r (Condition-F.Any tests) = conditions.Any (tests ++ r ∷ [])
+or_at l r _ = conditions.Any (l ∷ r ∷ [])
+
+-- one more condition joined by OR
+abbrev pub or : Condition → Condition → Condition
+or l r = or_at l r (out-Condition l)
 
 abbrev pub or_step : Rule Condition → Unit {0} → Condition → Rule Condition
-or_step conjunction _ l = map_rule (conditions.Or l) conjunction
+or_step conjunction _ l = map_rule (or l) conjunction
 
 -- nothing that a condition goes on with
 pub record Ended (follow : Toks) : Type 0 where

@@ -25,7 +25,7 @@ pub use lexeme::Lexeme;
 pub use tree::{
     Assignment, Bracketed, BrokerInstance, Change, Column, Columns, Comparison, Condition,
     Declaration, DialogOption, Ending, Expr, Filter, GetGroup, Receive, RowColumn, Selected, Sign,
-    Statement, Waited,
+    Statement, Term, Waited,
 };
 pub use word::{Fixed, is};
 

@@ -14,9 +14,17 @@ pub enum Expr {
     Variable(Text),
     /// `@@ROWCOUNT`
     RowCount,
-    Add(Boxed<Expr>, Boxed<Expr>),
-    Subtract(Boxed<Expr>, Boxed<Expr>),
+    /// Two operands or more. The first one is no sum, as the brackets around it say nothing.
+    Sum(Boxed<Expr>, Items<Term>),
     Cast(Boxed<Expr>, ValueKind),
+}
+
+/// A sign, and the operand behind it.
+#[cycle(expr)]
+#[derive(Debug, Drop)]
+pub struct Term {
+    pub sign: Sign,
+    pub operand: Expr,
 }
 
 #[derive(Clone, Copy, Debug, PartialEq, Eq)]
@@ -40,8 +48,10 @@ pub enum Condition {
     Compare(Comparison, Expr, Expr),
     IsNull(Expr),
     IsNotNull(Expr),
-    And(Boxed<Condition>, Boxed<Condition>),
-    Or(Boxed<Condition>, Boxed<Condition>),
+    /// Conditions joined by AND, two or more.
+    All(Items<Condition>),
+    /// Conditions joined by OR, two or more.
+    Any(Items<Condition>),
 }
 
 /// What stands in brackets where a condition is read.

@@ -1,6 +1,6 @@
 //! Conditions.
 
-ghost use Rattle.std.specs.Prelude.{◌≡◌, ◌≤◌, ◌<◌, ◌-◌, suc, length, IfOk};
+ghost use Rattle.std.specs.Prelude.{◌≡◌, ◌≤◌, ◌<◌, ◌-◌, ◌∷◌, [], suc, length, IfOk};
 ghost use Rattle.sb_parse.specs.Gives.{Gives};
 ghost use Rattle.sb_grammar.specs.Exprs as spec;
 
@@ -8,7 +8,7 @@ use crate::expr::{cast, literal, more_sum, sum};
 use crate::fault::Fault;
 use crate::value::{behind, expect};
 use sb_grammar::{Bracketed, Comparison, Condition, Expr, Fixed, Lexeme, is};
-use sqlite_items::Boxed;
+use sqlite_items::Items;
 use std::alloc::{AllocError, Global};
 
 #[tactic(auto, unfolding(sb_grammar::specs::Exprs::comparison_of))]
@@ -154,16 +154,37 @@ fn test(alloc: Global, levels: u32, tokens: &[Lexeme]) -> Result<(Condition, &[L
     test_by(alloc, levels, first, rest)
 }
 
-fn and(alloc: Global, left: Condition, right: Condition) -> Result<Condition, AllocError>
-    ensures { IfOk result (λ c. c ≡ Condition.And left right) }
+fn two(alloc: Global, left: Condition, right: Condition) -> Result<Items<Condition>, AllocError>
+    ensures { IfOk result (λ tests. tests ≡ left ∷ right ∷ []) }
 {
-    Ok(Condition::And(Boxed::new(alloc, left)?, Boxed::new(alloc, right)?))
+    let mut tests = Items::new(alloc);
+    tests.push(left)?;
+    tests.push(right)?;
+    Ok(tests)
+}
+
+fn and(alloc: Global, left: Condition, right: Condition) -> Result<Condition, AllocError>
+    ensures { IfOk result (λ c. c ≡ spec.and left right) }
+{
+    match left {
+        Condition::All(mut tests) => {
+            tests.push(right)?;
+            Ok(Condition::All(tests))
+        }
+        first => Ok(Condition::All(two(alloc, first, right)?)),
+    }
 }
 
 fn or(alloc: Global, left: Condition, right: Condition) -> Result<Condition, AllocError>
-    ensures { IfOk result (λ c. c ≡ Condition.Or left right) }
+    ensures { IfOk result (λ c. c ≡ spec.or left right) }
 {
-    Ok(Condition::Or(Boxed::new(alloc, left)?, Boxed::new(alloc, right)?))
+    match left {
+        Condition::Any(mut tests) => {
+            tests.push(right)?;
+            Ok(Condition::Any(tests))
+        }
+        first => Ok(Condition::Any(two(alloc, first, right)?)),
+    }
 }
 
 #[cycle(condition)]

@@ -6,10 +6,10 @@ ghost use Rattle.sb_grammar.specs.Exprs as spec;
 
 use crate::fault::Fault;
 use crate::value::{expect, kind, number_of, text_by};
-use sb_grammar::{Expr, Fixed, Lexeme, Sign, is};
+use sb_grammar::{Expr, Fixed, Lexeme, Sign, Term, is};
 use sb_lex::TokenKind;
 use sb_log::{Bytes, ValueKind};
-use sqlite_items::Boxed;
+use sqlite_items::{Boxed, Items};
 use std::alloc::{AllocError, Global};
 
 fn variable_expr(alloc: Global, value: &[u8]) -> Result<Option<Expr>, AllocError>
@@ -87,13 +87,21 @@ pub(crate) fn sign_of(t: &Lexeme) -> Option<Sign>
     }
 }
 
-fn joined(alloc: Global, sign: Sign, left: Expr, right: Expr) -> Result<Expr, AllocError>
-    ensures { IfOk result (λ e. e ≡ spec.joined sign left right) }
+/// One more term behind an expression: a sum goes on, anything else begins one.
+fn joined(alloc: Global, sign: Sign, left: Expr, operand: Expr) -> Result<Expr, AllocError>
+    ensures { IfOk result (λ e. e ≡ spec.joined sign left operand) }
 {
-    let (left, right) = (Boxed::new(alloc, left)?, Boxed::new(alloc, right)?);
-    match sign {
-        Sign::Plus => Ok(Expr::Add(left, right)),
-        Sign::Minus => Ok(Expr::Subtract(left, right)),
+    let term = Term { sign, operand };
+    match left {
+        Expr::Sum(first, mut terms) => {
+            terms.push(term)?;
+            Ok(Expr::Sum(first, terms))
+        }
+        first => {
+            let mut terms = Items::new(alloc);
+            terms.push(term)?;
+            Ok(Expr::Sum(Boxed::new(alloc, first)?, terms))
+        }
     }
 }
 
