@@ -33,6 +33,7 @@ pub record Lawful {A : Type 0} (r : Rule A) : Type 0 where
   pub fails : (ts : Toks) (s : Stop) → r.reads ts ≡ Err s → FailsAt r ts s
   pub bar_sound : (ts : Toks) (n : ℕ) (w : Barred) → r.reads ts ≡ Err (n, Some w) → (rest : Toks) × (n ≡ length rest) × r.bars ts rest w
   pub bar_complete : (ts rest : Toks) (w : Barred) → r.bars ts rest w → r.reads ts ≡ Err (length rest, Some w)
+  pub bar_some : (ts rest : Toks) (w : Barred) → r.bars ts rest w → 0 < length rest
   pub shortest : (follow : Toks) → r.Fine follow → r.reads (r.min ++ follow) ≡ Ok (r.least, follow)
 
 abbrev pub done : {A : Type 0} → A → Toks → Read A
@@ -80,6 +81,7 @@ pure-lawful a = record {
   fails = λ ts n e. absurd cc;
   bar_sound = λ ts n w e. absurd cc;
   bar_complete = λ ts rest w h. absurd h;
+  bar_some = λ ts rest w h. absurd h;
   shortest = λ follow f. refl;
 }
 
@@ -181,6 +183,7 @@ module _ {A : Type 0} (f : Lexeme → Option A) (ex : Lexeme) (a : A) (fits : f 
     fails = token_fails;
     bar_sound = token_bars;
     bar_complete = λ ts rest w h. absurd h;
+    bar_some = λ ts rest w h. absurd h;
     shortest = λ follow _. token_some f ex follow a fits;
   }
 
@@ -297,6 +300,10 @@ module _ {A B : Type 0} (p : Rule A) (q : A → Rule B) (F : Toks → Type 0) (P
   bind_bar_complete ts rest w (inl b) = ap (bind_by q) (P.bar_complete ts rest w b)
   bind_bar_complete ts rest w (inr (x, mid, s, b)) = ap (bind_by q) (P.complete ts x mid s) ∙ (Q x).bar_complete mid rest w b
 
+  bind_bar_some : (ts rest : Toks) (w : Barred) → bind_bars ts rest w → 0 < length rest
+  bind_bar_some ts rest w (inl b) = P.bar_some ts rest w b
+  bind_bar_some ts rest w (inr (x, mid, s, b)) = (Q x).bar_some mid rest w b
+
   pub bind-lawful : Lawful (bind p q F)
   bind-lawful = record {
     sound = λ ts y rest e. let w = bind_was p q ts y rest e in (w.x, w.mid, P.sound ts w.x w.mid w.first, (Q w.x).sound w.mid y rest w.second);
@@ -305,6 +312,7 @@ module _ {A B : Type 0} (p : Rule A) (q : A → Rule B) (F : Toks → Type 0) (P
     fails = bind_fails;
     bar_sound = bind_bar_sound;
     bar_complete = bind_bar_complete;
+    bar_some = bind_bar_some;
     shortest = λ follow g. ap (λ (z : Toks). bind_by q (p.reads z)) (append_assoc p.min (q p.least).min follow)
         ∙ ap (bind_by q) (P.shortest ((q p.least).min ++ follow) (seam p.least follow g)) ∙ (Q p.least).shortest follow (calm p.least follow g);
   }
@@ -352,6 +360,14 @@ module _ {A B : Type 0} (f : Lexeme → Option B) (p : B → Rule A) (q : Rule A
       by_test : (o : Option B) → f t ≡ o → alt_reads f p q (t ∷ ts) ≡ Err (length rest, Some w)
       by_test None h = alt_none (t ∷ ts) h ∙ Q.bar_complete (t ∷ ts) rest w (subst (λ (o : Option B). either_fact o (λ b. (p b).bars ts rest w) (q.bars (t ∷ ts) rest w)) h s)
       by_test (Some b) h = alt_some t ts b h ∙ (P b).bar_complete ts rest w (subst (λ (o : Option B). either_fact o (λ b. (p b).bars ts rest w) (q.bars (t ∷ ts) rest w)) h s)
+
+  alt_bar_some : ((b : B) → Lawful (p b)) → Lawful q → (ts rest : Toks) (w : Barred) → alt_bars f p q ts rest w → 0 < length rest
+  alt_bar_some P Q [] rest w s = Q.bar_some [] rest w s
+  alt_bar_some P Q (t ∷ ts) rest w s = by_test (f t) s
+    where
+      by_test : (o : Option B) → either_fact o (λ b. (p b).bars ts rest w) (q.bars (t ∷ ts) rest w) → 0 < length rest
+      by_test None s = Q.bar_some (t ∷ ts) rest w s
+      by_test (Some b) s = (P b).bar_some ts rest w s
 
 -- the first token stays, so the test says the same of it
 head_stays : {B : Type 0} (f : Lexeme → Option B) (used rest : Toks) (t : Lexeme) (old new ts : Toks) → ts ≡ used ++ rest → rest ≡ t ∷ old → head f ts ≡ None → head f (used ++ t ∷ new) ≡ None
@@ -436,6 +452,7 @@ module _ {A B : Type 0} (f : Lexeme → Option B) (p : B → Rule A) (q : Rule A
     fails = alt_fails;
     bar_sound = alt_bar_sound f p q P Q;
     bar_complete = alt_bar_complete f p q P Q;
+    bar_some = alt_bar_some f p q P Q;
     shortest = λ follow g. alt_none f p q (q.min ++ follow) (apart follow g) ∙ Q.shortest follow (calm_q follow g);
   }
 
@@ -487,6 +504,14 @@ module _ {A : Type 0} (f : Lexeme → Option Barred) (q : Rule A) where
       by_test (Some b) h =
           let s = subst (λ (o : Option Barred). either_fact o (λ b. (w ≡ b) × (rest ≡ t ∷ ts)) (q.bars (t ∷ ts) rest w)) h s in
           barred_some t ts b h ∙ ap (λ (v : Barred). failed {A = A} (suc (length ts), Some v)) (sym s.0) ∙ ap (λ (z : Toks). failed {A = A} (length z, Some w)) (sym s.1)
+
+  barred_bar_some : Lawful q → (ts rest : Toks) (w : Barred) → barred_bars f q ts rest w → 0 < length rest
+  barred_bar_some Q [] rest w s = Q.bar_some [] rest w s
+  barred_bar_some Q (t ∷ ts) rest w s = by_test (f t) s
+    where
+      by_test : (o : Option Barred) → either_fact o (λ b. (w ≡ b) × (rest ≡ t ∷ ts)) (q.bars (t ∷ ts) rest w) → 0 < length rest
+      by_test None s = Q.bar_some (t ∷ ts) rest w s
+      by_test (Some b) s = subst (λ (z : Toks). 0 < length z) (sym s.1) (omega arith)
 
 module _ {A : Type 0} (f : Lexeme → Option Barred) (q : Rule A) (F : Toks → Type 0) (Q : Lawful q) (calm : (follow : Toks) → F follow → q.Fine follow)
     (apart : (follow : Toks) → F follow → head f (q.min ++ follow) ≡ None) where
@@ -553,6 +578,7 @@ module _ {A : Type 0} (f : Lexeme → Option Barred) (q : Rule A) (F : Toks → 
     fails = barred_fails;
     bar_sound = barred_bar_sound f q Q;
     bar_complete = barred_bar_complete f q Q;
+    bar_some = barred_bar_some f q Q;
     shortest = λ follow g. barred_none f q (q.min ++ follow) (apart follow g) ∙ Q.shortest follow (calm follow g);
   }
 

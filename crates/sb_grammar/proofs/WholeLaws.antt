@@ -1,10 +1,10 @@
 -- The three laws of a lawful rule.
-use Rattle.std.proofs.Common.{◌≡◌, ℕ, suc, [], ◌∷◌, ◌++◌, length, Option, Some, None, Result, Ok, Err, refl, sym, ap, subst, ◌∙◌, append_assoc}
+use Rattle.std.proofs.Common.{◌≡◌, ◌<◌, ◌+◌, ℕ, suc, [], ◌∷◌, ◌++◌, length, Option, Some, None, Result, Ok, Err, refl, sym, ap, subst, ◌∙◌, append_assoc, arith, length-append}
 use Rattle.std.proofs.lemmas.List.{append-nil}
 use Rattle.sb_grammar.specs.declared.lexeme.Lexeme.{Lexeme}
 use Rattle.sb_grammar.specs.declared.choice.Barred.{Barred}
 use Rattle.sb_grammar.specs.Rules.{Toks, Stop, bad, Read, Rule}
-use Rattle.sb_grammar.specs.Whole.{whole_by, whole, FirstPlace, IsBarred, IsGrammar}
+use Rattle.sb_grammar.specs.Whole.{whole_by, whole, Begins, FirstPlace, IsBarred, IsGrammar}
 use Rattle.sb_grammar.proofs.Laws.{Lawful, ok_parts, done, failed, no_ok}
 
 abbrev value : {A : Type 0} → A → Result A Stop
@@ -96,9 +96,87 @@ module _ {A : Type 0} (r : Rule A) (R : Lawful r) where
   bar_stated : (ts : Toks) (n : ℕ) (w : Barred) → IsBarred r ts n w → whole r ts ≡ Err (n, Some w)
   bar_stated ts n w (rest, len, b) = ap whole_by (R.bar_complete ts rest w b) ∙ ap (λ (m : ℕ). place {A = A} (m, Some w)) (sym len)
 
+  bar_there : (ts : Toks) (n : ℕ) (w : Barred) → IsBarred r ts n w → 0 < n
+  bar_there ts n w (rest, len, b) = subst (λ (m : ℕ). 0 < m) (sym len) (R.bar_some ts rest w b)
+
   pub is_grammar : r.Fine [] → IsGrammar r
-  is_grammar fine = record { read_is_spelled = is_spelled; spelled_is_read = is_read; first_place = λ ts n w e. first_is fine ts (n, w) e; barred_is_stated = bar_read; stated_is_barred = bar_stated }
+  is_grammar fine = record { read_is_spelled = is_spelled; spelled_is_read = is_read; first_place = λ ts n w e. first_is fine ts (n, w) e; barred_is_stated = bar_read; stated_is_barred = bar_stated; barred_is_there = bar_there }
 
 -- no two values have one spelling
 pub spelled_apart : {A : Type 0} (r : Rule A) → IsGrammar r → (ts : Toks) (x y : A) → r.spells x ts [] → r.spells y ts [] → x ≡ y
 spelled_apart r G ts x y s u = value_is x y (sym (G.spelled_is_read ts x s) ∙ G.spelled_is_read ts y u)
+
+-- ---- one first place
+
+tail_is : (t u : Lexeme) (ts us : Toks) → t ∷ ts ≡ u ∷ us → ts ≡ us
+tail_is t u ts us e = cc
+
+head_is : (t u : Lexeme) (ts us : Toks) → t ∷ ts ≡ u ∷ us → t ≡ u
+head_is t u ts us e = cc
+
+-- a longer beginning has the next token too
+record Longer (before rest long : Toks) : Type 0 where
+  t : Lexeme
+  others : Toks
+  extra : Toks
+  next : rest ≡ t ∷ others
+  parts : long ≡ before ++ t ∷ extra
+
+longer_is : (before rest long behind : Toks) → before ++ rest ≡ long ++ behind → length before < length long → Longer before rest long
+longer_is [] rest [] behind e h = absurd (omega arith)
+longer_is [] rest (u ∷ us) behind e h = record { t = u; others = us ++ behind; extra = us; next = e; parts = refl }
+longer_is (t ∷ ts) rest [] behind e h = absurd (omega arith)
+longer_is (t ∷ ts) rest (u ∷ us) behind e h =
+    let L : Longer ts rest us = longer_is ts rest us behind (tail_is t u (ts ++ rest) (us ++ behind) e) (omega arith) in
+    record {
+      t = L.t;
+      others = L.others;
+      extra = L.extra;
+      next = L.next;
+      parts = ap (λ (z : Toks). u ∷ z) L.parts ∙ ap (λ (v : Lexeme). v ∷ (ts ++ L.t ∷ L.extra)) (sym (head_is t u (ts ++ rest) (us ++ behind) e));
+    }
+
+module _ {A : Type 0} (r : Rule A) (ts : Toks) where
+  -- what begins a spelling doesn't go past a first place
+  pub not_past : (n : ℕ) (F : FirstPlace r ts n) (long behind : Toks) → ts ≡ long ++ behind → Begins r long → length F.before < length long → ⊥
+  not_past n F long behind e (more, x, s) h =
+      let L : Longer F.before F.rest long = longer_is F.before F.rest long behind (sym F.parts ∙ e) h in
+      let same : long ++ more ≡ (F.before ++ L.t ∷ []) ++ (L.extra ++ more) =
+      ap (λ (z : Toks). z ++ more) L.parts ∙ append_assoc F.before (L.t ∷ L.extra) more ∙ sym (append_assoc F.before (L.t ∷ []) (L.extra ++ more)) in
+      F.none L.t L.others L.next (L.extra ++ more, x, subst (λ (z : Toks). r.spells x z []) same s)
+
+  pub one_first : (n m : ℕ) → FirstPlace r ts n → FirstPlace r ts m → n ≡ m
+  one_first n m F G =
+      let no_longer : length F.before < length G.before → ⊥ = not_past n F G.before G.rest G.parts G.begins in
+      let no_shorter : length G.before < length F.before → ⊥ = not_past m G F.before F.rest F.parts F.begins in
+      let one : length ts ≡ length F.before + length F.rest = ap length F.parts ∙ length-append F.before F.rest in
+      let other : length ts ≡ length G.before + length G.rest = ap length G.parts ∙ length-append G.before G.rest in
+      let few : n ≡ length F.rest = F.left in
+      let many : m ≡ length G.rest = G.left in
+      omega arith
+
+  -- all tokens begin no spelling where one of them stands at a first place
+  pub not_all : (n : ℕ) → FirstPlace r ts n → 0 < n → Begins r ts → ⊥
+  not_all n F some begins =
+      let len : length ts ≡ length F.before + length F.rest = ap length F.parts ∙ length-append F.before F.rest in
+      let few : n ≡ length F.rest = F.left in
+      not_past n F ts [] (sym (append-nil ts)) begins (omega arith)
+
+-- ---- one word that isn't supported
+
+some_same : (v w : Barred) → some_barred v ≡ some_barred w → v ≡ w
+some_same v w e = cc
+
+pub one_barred : {A : Type 0} (r : Rule A) → IsGrammar r → (ts : Toks) (n : ℕ) (v w : Barred) → IsBarred r ts n v → IsBarred r ts n w → v ≡ w
+one_barred {A} r G ts n v w b d = some_same v w (ap (λ (s : Stop). s.1) (place_is A (n, Some v) (n, Some w) (sym (G.stated_is_barred ts n v b) ∙ G.stated_is_barred ts n w d)))
+
+-- what reading says without a word bars none
+pub none_barred : {A : Type 0} (r : Rule A) → IsGrammar r → (ts : Toks) (n : ℕ) → whole r ts ≡ Err (bad n) → (w : Barred) → IsBarred r ts n w → ⊥
+none_barred {A} r G ts n e w b = no_word w (ap (λ (s : Stop). s.1) (place_is A (bad n) (n, Some w) (sym e ∙ G.stated_is_barred ts n w b)))
+  where
+    no_word : (w : Barred) → None ≡ some_barred w → ⊥
+    no_word w e = cc
+
+-- tokens that are refused spell nothing
+pub none_spelled : {A : Type 0} (r : Rule A) → IsGrammar r → (ts : Toks) (n : Stop) → whole r ts ≡ Err n → (x : A) → r.spells x ts [] → ⊥
+none_spelled r G ts n e x s = value_no_place n x (sym e ∙ G.spelled_is_read ts x s)

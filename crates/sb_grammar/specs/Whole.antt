@@ -1,5 +1,5 @@
 -- All tokens, and the first at which no spelling goes on.
-use Rattle.std.specs.Prelude.{◌≡◌, ℕ, suc, [], ◌∷◌, ◌++◌, length, Option, Some, Result, Ok, Err}
+use Rattle.std.specs.Prelude.{◌≡◌, ◌<◌, ℕ, suc, [], ◌∷◌, ◌++◌, length, Option, Some, Result, Ok, Err}
 use Rattle.sb_grammar.specs.declared.lexeme.Lexeme.{Lexeme}
 use Rattle.sb_grammar.specs.declared.choice.Barred.{Barred}
 use Rattle.sb_grammar.specs.Rules.{Toks, Stop, bad, Read, Rule}
@@ -40,3 +40,4 @@ pub record IsGrammar {A : Type 0} (r : Rule A) : Type 0 where
   pub first_place : (ts : Toks) (n : ℕ) (w : Option Barred) → whole r ts ≡ Err (n, w) → FirstPlace r ts n
   pub barred_is_stated : (ts : Toks) (n : ℕ) (w : Barred) → whole r ts ≡ Err (n, Some w) → IsBarred r ts n w
   pub stated_is_barred : (ts : Toks) (n : ℕ) (w : Barred) → IsBarred r ts n w → whole r ts ≡ Err (n, Some w)
+  pub barred_is_there : (ts : Toks) (n : ℕ) (w : Barred) → IsBarred r ts n w → 0 < n

@@ -67,8 +67,8 @@ module _ {A : Type 0} (r : Rule A) where
   call_place text ts (Some at) cut (Ok x) s names = record { tokens = ts; cut = cut; begins = ([], x, subst (λ (z : Toks). r.spells x z []) (sym (append-nil (lexemes_of text ts))) s) }
   call_place text ts None cut (Err Memory) s names = tt
   call_place text ts (Some at) cut (Err Memory) s names = tt
-  call_place text ts None cut (Err (Bad n)) s names = (first_place text ts None cut n names, inl refl)
-  call_place text ts (Some at) cut (Err (Bad zero)) s names = record { tokens = ts; cut = cut; begins = ends_begin (lexemes_of text ts) names }
-  call_place text ts (Some at) cut (Err (Bad (suc n))) s names = (first_place text ts (Some at) cut (suc n) names, inr (omega arith))
-  call_place text ts None cut (Err (Unsupported n w)) s names = record { place = first_place text ts None cut n names.0; word = names.1 }
-  call_place text ts (Some at) cut (Err (Unsupported n w)) s names = record { place = first_place text ts (Some at) cut n names.0; word = names.1 }
+  call_place text ts None cut (Err (Bad n)) s names = record { place = first_place text ts None cut n names.first; judged = inl refl; unspelled = names.unspelled; supported = names.supported }
+  call_place text ts (Some at) cut (Err (Bad zero)) s names = record { tokens = ts; cut = cut; begins = ends_begin (lexemes_of text ts) names.first }
+  call_place text ts (Some at) cut (Err (Bad (suc n))) s names = record { place = first_place text ts (Some at) cut (suc n) names.first; judged = inr (omega arith); unspelled = names.unspelled; supported = names.supported }
+  call_place text ts None cut (Err (Unsupported n w)) s names = record { place = first_place text ts None cut n names.first; some = names.some; word = names.word }
+  call_place text ts (Some at) cut (Err (Unsupported n w)) s names = record { place = first_place text ts (Some at) cut n names.first; some = names.some; word = names.word }

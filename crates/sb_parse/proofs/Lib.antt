@@ -4,6 +4,7 @@ pub mod Series
 pub mod WholeAnswers
 pub mod Members
 pub mod Calls
+pub mod Refusals
 pub mod LexemeLaws
 pub mod Turns
 pub mod QuoteLaws

@@ -37,9 +37,17 @@ pub record IsFirstPlace {A : Type 0} (r : Rule A) (text : List ℕ) (at : ℕ) :
   pub first : FirstPlace r (lexemes_of text tokens) left
   pub there : at ≡ place_of tokens left
 
+-- the tokens spell nothing and no word that isn't supported stands at the first place; tokens that end too soon are judged only where the text ends with them
+pub record IsBadStatement {A : Type 0} (r : Rule A) (text : List ℕ) (at : ℕ) : Type 0 where
+  pub place : IsFirstPlace r text at
+  pub judged : (place.unlexed ≡ None) ⊎ (0 < place.left)
+  pub unspelled : (x : A) → r.spells x (lexemes_of text place.tokens) [] → ⊥
+  pub supported : (what : Barred) → IsBarred r (lexemes_of text place.tokens) place.left what → ⊥
+
 -- a word that isn't supported there stands at the first place
 pub record IsUnsupported {A : Type 0} (r : Rule A) (text : List ℕ) (at : ℕ) (what : Barred) : Type 0 where
   pub place : IsFirstPlace r text at
+  pub some : 0 < place.left
   pub word : IsBarred r (lexemes_of text place.tokens) place.left what
 
 -- no token stands there, and those before it begin some spelling
@@ -48,10 +56,10 @@ pub record IsUnlexedAt {A : Type 0} (r : Rule A) (text : List ℕ) (at : ℕ) : 
   pub cut : IsCut text tokens (Some at)
   pub begins : Begins r (lexemes_of text tokens)
 
--- what a refusal says; tokens that end too soon are judged only where the text ends with them
+-- what a refusal says
 abbrev pub Refuses : {A : Type 0} → Rule A → List ℕ → ParseRefused → Type 0
 Refuses r text OutOfMemory = Unit {0}
-Refuses r text (BadStatement at) = (place : IsFirstPlace r text at) × ((place.unlexed ≡ None) ⊎ (0 < place.left))
+Refuses r text (BadStatement at) = IsBadStatement r text at
 Refuses r text (Unsupported at what) = IsUnsupported r text at what
 Refuses r text (Unlexed at) = IsUnlexedAt r text at
 

@@ -70,11 +70,11 @@ pub batch_stops : (first : ℕ) (text : List ℕ) (ps : List Piece) (before : Li
 unfolding PieceSays
 batch_stops first text ps before parse.OutOfMemory h only = memory_stops (batch first text ∷ ps) before refused.OutOfMemory tt
 batch_stops first text ps before (parse.BadStatement at) h only =
-    piece_stops (batch first text) ps before (bad_line (line_at first text at) why.BadStatement) (parse.BadStatement at, h, refl, only) (λ other k. only k.0 k.1)
+    piece_stops (batch first text) ps before (bad_line (line_at first text at) why.BadStatement) (parse.BadStatement at, h, refl) (λ other k. only k.0 k.1)
 batch_stops first text ps before (parse.Unsupported at what) h only =
-    piece_stops (batch first text) ps before (bad_line (line_at first text at) (why.Unsupported what)) (parse.Unsupported at what, h, refl, only) (λ other k. only k.0 k.1)
+    piece_stops (batch first text) ps before (bad_line (line_at first text at) (why.Unsupported what)) (parse.Unsupported at what, h, refl) (λ other k. only k.0 k.1)
 batch_stops first text ps before (parse.Unlexed at) h only =
-    piece_stops (batch first text) ps before (bad_line (line_at first text at) why.Unlexed) (parse.Unlexed at, h, refl, only) (λ other k. only k.0 k.1)
+    piece_stops (batch first text) ps before (bad_line (line_at first text at) why.Unlexed) (parse.Unlexed at, h, refl) (λ other k. only k.0 k.1)
 
 -- ---- a command
 

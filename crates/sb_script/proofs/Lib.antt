@@ -3,3 +3,4 @@ mod Goes
 mod Texts
 mod NoStatements
 mod Alone
+mod Within

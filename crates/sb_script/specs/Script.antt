@@ -89,14 +89,10 @@ abbrev pub commanded : ℕ → Result Command BadWhy → Said
 commanded number (Ok c) = Ok (c ∷ [])
 commanded number (Err reason) = Err (bad_line number reason)
 
--- the tokens of a text spell no batch
-abbrev pub SpellsNone : List ℕ → Type 0
-SpellsNone text = (block : List Statement) → IsSpelledIn (grammar.batch grammar.levels) block text → ⊥
-
 -- what a piece says: a batch what its tokens spell, or else its first place at which no spelling goes on
 unfoldable pub PieceSays : Piece → Said → Type 0
 PieceSays (batch first text) (Ok cs) = (block : List Statement) × IsSpelledIn (grammar.batch grammar.levels) block text × (cs ≡ batched text block)
-PieceSays (batch first text) (Err bad) = (refused : ParseRefused) × Refuses (grammar.batch grammar.levels) text refused × (named first text refused ≡ Some bad) × SpellsNone text
+PieceSays (batch first text) (Err bad) = (refused : ParseRefused) × Refuses (grammar.batch grammar.levels) text refused × (named first text refused ≡ Some bad)
 PieceSays (command_line number l) said = said ≡ commanded number (command_of (trimmed l))
 
 -- what is said behind a piece: nothing more behind a refusal

@@ -1,10 +1,11 @@
 //! Laws of scripts, each the contract of a function that does nothing.
 
-ghost use Rattle.std.specs.Prelude.{◌≡◌, ℕ, List, [], None, Ok};
+ghost use Rattle.std.specs.Prelude.{◌≡◌, ℕ, List, [], None, Ok, All};
 ghost use Rattle.sb_lex.specs.Cuts.{IsCut};
 ghost use Rattle.sb_grammar.specs.Batches as grammar;
 ghost use Rattle.sb_parse.specs.Places.{IsSpelledIn};
 ghost use Rattle.sb_script.specs.declared.commands.Command as declared;
+ghost use Rattle.sb_script.specs.Bounds.{IsWithin};
 ghost use Rattle.sb_script.specs.Script as says;
 
 /// The texts that spell no statements are those without tokens.
@@ -13,7 +14,12 @@ pub fn texts_without_tokens_spell_none()
     ensures only { (text : List ℕ) → IsSpelledIn (grammar.batch grammar.levels) [] text → IsCut text [] None }
 {}
 
-/// Bytes that say commands say nothing else: no other commands and no refusal.
-pub fn commands_are_said_alone()
-    ensures { (bytes : List ℕ) (commands : List declared.Command) (other : says.Said) → says.ScriptSays bytes (Ok commands) → says.ScriptSays bytes other → other ≡ Ok commands }
+/// Bytes say one thing alone: the commands that they say, or the first refused line and why.
+pub fn bytes_say_one_thing()
+    ensures { (bytes : List ℕ) (one other : says.Said) → says.ScriptSays bytes one → says.ScriptSays bytes other → one ≡ other }
+{}
+
+/// The numbers of a script's commands are at most the greatest, and those of its sessions from 1 to 9.
+pub fn numbers_of_commands_are_within()
+    ensures { (bytes : List ℕ) (commands : List declared.Command) → says.ScriptSays bytes (Ok commands) → All IsWithin commands }
 {}

@@ -10,7 +10,9 @@ mod lines;
 mod reading;
 
 pub use commands::{BadWhy, Command};
-pub use facts::{commands_are_said_alone, texts_without_tokens_spell_none};
+pub use facts::{
+    bytes_say_one_thing, numbers_of_commands_are_within, texts_without_tokens_spell_none,
+};
 pub use reading::{LIMIT, ScriptRefused, script};
 
 #[cfg(test)]
