@@ -739,6 +739,53 @@ fn many_statements(rt: HostRuntime) -> Result<(), Fail> {
 }
 
 #[test]
+fn many_terms(rt: HostRuntime) -> Result<(), Fail> {
+    let alloc = rt.alloc();
+    for part in ["+1", "-@b", "+(1)"] {
+        let text = nested(alloc, "SET @a = 1", (part, "", ""), 300_000)?;
+        reads(&rt, alloc, text.as_str(), 1);
+    }
+    Ok(())
+}
+
+#[test]
+fn many_conditions(rt: HostRuntime) -> Result<(), Fail> {
+    let alloc = rt.alloc();
+    for part in [" AND @a = 1", " OR @a = 1", " OR @a = 1 AND @b = 2"] {
+        let mut text = nested(alloc, "IF @a = 1", (part, "", ""), 100_000)?;
+        text.push_str(" RETURN")?;
+        reads(&rt, alloc, text.as_str(), 1);
+    }
+    Ok(())
+}
+
+#[test]
+fn trees(rt: HostRuntime) -> Result<(), Fail> {
+    for (text, tree) in [
+        (
+            "SET @a = 1 + @@ROWCOUNT - 3 + NULL",
+            "Sum(Boxed { inner: Number(1) }, Items { items: [Term { sign: Plus, operand: RowCount }, Term { sign: Minus, operand: Number(3) }, Term { sign: Plus, operand: Null }] })",
+        ),
+        (
+            "SET @a = 1 - (2 + 3)",
+            "Sum(Boxed { inner: Number(1) }, Items { items: [Term { sign: Minus, operand: Sum(Boxed { inner: Number(2) }, Items { items: [Term { sign: Plus, operand: Number(3) }] }) }] })",
+        ),
+        (
+            "IF 1 = 2 AND 3 IS NULL AND 4 IS NOT NULL OR 5 < 6 RETURN",
+            "Any(Items { items: [All(Items { items: [Compare(Equal, Number(1), Number(2)), IsNull(Number(3)), IsNotNull(Number(4))] }), Compare(Less, Number(5), Number(6))] })",
+        ),
+        (
+            "IF (1 = 2 OR 3 IS NULL) AND 5 > 6 RETURN",
+            "All(Items { items: [Any(Items { items: [Compare(Equal, Number(1), Number(2)), IsNull(Number(3))] }), Compare(Greater, Number(5), Number(6))] })",
+        ),
+    ] {
+        let all = shown(&rt, rt.alloc(), text)?;
+        assert!(rt; all.as_str().contains(tree), "{all}");
+    }
+    Ok(())
+}
+
+#[test]
 fn procedures(rt: HostRuntime) -> Result<(), Fail> {
     let all = procedure(rt.alloc(), "AS BEGIN TRAN RETURN COMMIT");
     assert!(rt; matches!(&all, Ok(_)));
