@@ -1,6 +1,7 @@
 pub mod Carried
 pub mod Handed
 pub mod Known
+pub mod Lines
 pub mod Marking
 pub mod Noted
 pub mod Passing
@@ -10,3 +11,4 @@ pub mod Sent
 pub mod Stepping
 pub mod Taking
 pub mod Untaken
+pub mod Waited

@@ -1,4 +1,4 @@
--- A side that may send may go on to, when statements that make, end and clean no side are done.
+-- A side that may send may go on to, when statements that make, end, clean and move no side are done.
 use Rattle.std.proofs.Common.{◌≡◌, ℕ, Bool, true, false, cond, List, [], ◌∷◌, ◌++◌, refl, sym, ap, subst, ◌∙◌, append-nil, map, inl, inr, ◌⊎◌}
 use Rattle.std.specs.Prelude.{Result, Ok, Err, IfOk, ◌&&◌, ◌||◌, if◌then◌else◌, Option, Some, None, find, flat_map, option_map, option_and_then}
 use Rattle.std.specs.List.{Contains, list_any}
@@ -23,13 +23,13 @@ use Rattle.sb_instance.specs.Sending.{AreSending, IsQuiet, MaySend}
 use Rattle.sb_instance.specs.declared.sending.Sending.{Sending}
 
 pub quiet_send : (s : SideId) (kind : Bytes) (body : Option Bytes) → IsQuiet (Send s kind body ∷ [])
-quiet_send s kind body = record { makes = refl; ends = λ t. refl; clean = λ t. refl }
+quiet_send s kind body = record { makes = refl; ends = λ t. refl; clean = λ t. refl; moves = λ t. refl }
 
 pub quiet_takes : (q : Bytes) (items : List ReceivedItem) → IsQuiet (map (takes q) items)
-quiet_takes q [] = record { makes = refl; ends = λ t. refl; clean = λ t. refl }
+quiet_takes q [] = record { makes = refl; ends = λ t. refl; clean = λ t. refl; moves = λ t. refl }
 quiet_takes q (x ∷ items) =
     let rest : IsQuiet (map (takes q) items) = quiet_takes q items in
-    record { makes = rest.makes; ends = rest.ends; clean = rest.clean }
+    record { makes = rest.makes; ends = rest.ends; clean = rest.clean; moves = rest.moves }
 
 or_false : (a b : Bool) → b ≡ false → (a || b) ≡ a
 or_false true b e = refl
@@ -61,10 +61,10 @@ expired_by_txn : (tx : ℕ) (ops : List Op) (s : SideId) → is_expired (txn_ent
 expired_by_txn tx [] s = refl
 expired_by_txn tx (op ∷ ops) s = refl
 
-ops_more : (log : List Entry) (tx : ℕ) (ops : List Op) → ops_of (log ++ txn_entries tx ops) ≡ ops_of log ++ ops
+pub ops_more : (log : List Entry) (tx : ℕ) (ops : List Op) → ops_of (log ++ txn_entries tx ops) ≡ ops_of log ++ ops
 ops_more log tx ops = flat_map-append ops_of_entry log (txn_entries tx ops) ∙ ap (λ x. ops_of log ++ x) (ops_of_txn tx ops)
 
-any_more : (p : Op → Bool) (log : List Entry) (tx : ℕ) (ops : List Op) → list_any p ops ≡ false → list_any p (ops_of (log ++ txn_entries tx ops)) ≡ list_any p (ops_of log)
+pub any_more : (p : Op → Bool) (log : List Entry) (tx : ℕ) (ops : List Op) → list_any p ops ≡ false → list_any p (ops_of (log ++ txn_entries tx ops)) ≡ list_any p (ops_of log)
 any_more p log tx ops e =
     ap (list_any p) (ops_more log tx ops) ∙ list_any-append p (ops_of log) ops ∙ or_false (list_any p (ops_of log)) (list_any p ops) e
 

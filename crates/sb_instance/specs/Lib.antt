@@ -4,6 +4,7 @@ pub mod Counters
 pub mod Handing
 pub mod Carrying
 pub mod Sending
+pub mod Waiting
 pub mod Noted
 pub mod Candidates
 pub mod Giving

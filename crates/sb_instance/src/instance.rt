@@ -1,8 +1,9 @@
 //! The instance and its steps.
 
-ghost use Rattle.std.specs.Prelude.{◌≡◌, ◌<◌, ◌≤◌, ◌^◌, ◌+◌, ◌++◌, ◌∷◌, [], ℕ, None, IfOk, IsTrue, OnOk, OnErr, IsSome, flat_map, is_some, map};
+ghost use Rattle.std.specs.Prelude.{◌≡◌, ◌<◌, ◌≤◌, ◌^◌, ◌+◌, ◌++◌, ◌∷◌, [], ℕ, None, Some, IfOk, IfSome, IsTrue, OnOk, OnErr, IsSome, flat_map, is_some, map, pos};
 ghost use Rattle.sb_log.specs.declared.entries.Op.TheVariants.{Send};
 ghost use Rattle.sb_log.specs.declared.identifiers.Who.TheVariants.{A};
+ghost use Rattle.sb_log.specs.declared.requests.Filter.TheVariants as filters;
 ghost use Rattle.sb_log.specs.declared.requests.Reply.TheVariants as reply;
 ghost use Rattle.sb_log.specs.declared.requests.Request.TheVariants as request;
 ghost use Rattle.sb_model.specs.Instance.{opened};
@@ -16,6 +17,7 @@ ghost use Rattle.sb_instance.specs.Handing.{HandsOver, pending_by, taken_in};
 ghost use Rattle.sb_instance.specs.Carrying.{IsCarried};
 ghost use Rattle.sb_instance.specs.Running.{Commits, Refuses};
 ghost use Rattle.sb_instance.specs.Sending.{IsQuiet};
+ghost use Rattle.sb_instance.specs.Waiting.{IsWaiting, TakesNone};
 
 use crate::carrying::{Carrying, behind, is_type_refused};
 use crate::counters::{next_handle, next_tx};
@@ -23,6 +25,7 @@ use crate::handing::{Pending, accepted_entry, all_pending, carried, is_carried};
 use crate::receiving::{check_receive, picked, takings};
 use crate::sending::{Sending, check_send, kind_of, note};
 use crate::stopped::Stopped;
+use crate::waiting::{Waiting, waiting_in};
 use sb_log::{
     Body, Data, Entry, Filter, Handle, Listed, Name, Op, ReceivedItem, Refusal, Reply, Request,
     SideId, Verdict, Who,
@@ -43,6 +46,8 @@ pub struct Instance {
     carrying: Option<Carrying>,
     // Sides that are known to be ones that may send.
     sending: Vec<Sending>,
+    // What waits in the queue whose first item was asked for last.
+    waiting: Option<Waiting>,
 }
 
 impl Model for Instance {
@@ -59,7 +64,7 @@ impl Model for Instance {
 
     ghost view = { λ a. running a.who a.log.items a.next_handle a.next_tx };
 
-    ghost invariant = { λ a. IsSound a.who a.log.items a.next_handle a.carrying a.sending.items };
+    ghost invariant = { λ a. IsSound a.who a.log.items a.next_handle a.carrying a.sending.items a.waiting };
 }
 
 fn push_transaction(log: &mut Vec<Entry>, tx: u64, ops: Vec<Op>) -> Result<(), AllocError>
@@ -104,6 +109,7 @@ impl Instance {
             next_tx,
             carrying: None,
             sending: Vec::new(alloc),
+            waiting: None,
         })
     }
 
@@ -164,13 +170,83 @@ impl Instance {
                 Err(_) => Err(Refusal::OutOfMemory),
                 Ok(ops) => {
                     note(&mut self.sending, handle, side);
-                    self.commit(ops, Reply::Done)
+                    self.commit_sent(ops)
                 }
             },
         }
     }
 
+    /// A transaction that takes no item leaves what waits as it is.
+    fn commit_sent(&mut self, ops: Vec<Op>) -> Result<Reply, Refusal>
+        requires quiet { IsQuiet ops.items }
+        requires none { TakesNone ops.items }
+        ensures { Commits self.old ops.items reply.Done result self.new }
+    {
+        let waiting = self.waiting.take();
+        let result = self.commit(ops, Reply::Done);
+        self.waiting = waiting;
+        result
+    }
+
     fn receive(&mut self, queue: &Name, top: Option<i64>, filter: Filter) -> Result<Reply, Refusal>
+        ensures { (session now : ℕ) → Answers self.old session now (request.Receive queue.now top filter) result self.new }
+    {
+        match (filter, top) {
+            (Filter::All, Some(1)) => self.receive_first(queue),
+            _ => self.receive_any(queue, top, filter),
+        }
+    }
+
+    fn receive_first(&mut self, queue: &Name) -> Result<Reply, Refusal>
+        ensures { (session now : ℕ) → Answers self.old session now (request.Receive queue.now (Some (pos 1)) filters.All) result self.new }
+    {
+        match self.waiting_for(queue) {
+            None => self.receive_any(queue, Some(1), Filter::All),
+            Some(waiting) => self.take_first(waiting),
+        }
+    }
+
+    /// What waits in the queue, as it is noted or as the log has it.
+    fn waiting_for(&mut self, queue: &Name) -> Option<Waiting>
+        ensures same { self.new ≡ self.old }
+        ensures noted { IfSome result (IsWaiting self.old.log) }
+        ensures queue { IfSome result (λ waiting. waiting.queue ≡ queue.now) }
+    {
+        match self.waiting.take() {
+            None => waiting_in(self.alloc, self.log.as_slice(), queue),
+            Some(waiting) => {
+                if waiting.is_of(queue) {
+                    Some(waiting)
+                } else {
+                    waiting_in(self.alloc, self.log.as_slice(), queue)
+                }
+            }
+        }
+    }
+
+    /// Takes the first item that waits, and notes the others.
+    fn take_first(&mut self, mut waiting: Waiting) -> Result<Reply, Refusal>
+        requires { IsWaiting self.old.log waiting }
+        ensures { (session now : ℕ) → Answers self.old session now (request.Receive waiting.queue (Some (pos 1)) filters.All) result self.new }
+    {
+        match waiting.take_first(self.alloc) {
+            Err(_) => Err(Refusal::OutOfMemory),
+            Ok(items) => match self.take(&waiting.queue, items) {
+                Err(refusal) => Err(refusal),
+                Ok(reply) => {
+                    self.waiting = Some(waiting);
+                    Ok(reply)
+                }
+            },
+        }
+    }
+
+    fn receive_any(
+        &mut self,
+        queue: &Name,
+        top: Option<i64>,
+        filter: Filter,
+    ) -> Result<Reply, Refusal>
         ensures { (session now : ℕ) → Answers self.old session now (request.Receive queue.now top filter) result self.new }
     {
         let log = self.log.as_slice();
@@ -200,6 +276,7 @@ impl Instance {
         ensures { Commits self.old ops.items reply result self.new }
     {
         self.carrying = None;
+        self.waiting = None;
         match push_transaction(&mut self.log, self.next_tx, ops) {
             Err(_) => Err(Refusal::OutOfMemory),
             Ok(()) => {
@@ -280,6 +357,7 @@ impl Instance {
         }
         self.carrying = None;
         self.sending.clear();
+        self.waiting = None;
         self.log.push(Entry::Accepted {
             side: partner(side),
             number,
@@ -317,6 +395,7 @@ impl Instance {
         let entry = accepted_entry(self.who, self.log.as_slice(), self.next_handle, message)?;
         self.carrying = None;
         self.sending.clear();
+        self.waiting = None;
         self.log.push(entry)?;
         Ok(())
     }

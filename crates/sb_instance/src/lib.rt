@@ -14,6 +14,7 @@ mod sending;
 mod stopped;
 #[cfg(test)]
 mod tests;
+mod waiting;
 
 pub use handing::Pending;
 pub use instance::Instance;

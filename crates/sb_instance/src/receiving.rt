@@ -91,7 +91,8 @@ pub fn check_receive(
     }
 }
 
-fn given(alloc: Global, candidate: &Candidate<'_>) -> Result<ReceivedItem, AllocError>
+/// The item as RECEIVE gives it.
+pub fn given(alloc: Global, candidate: &Candidate<'_>) -> Result<ReceivedItem, AllocError>
     ensures { IfOk result (λ item. item ≡ given (placed_seen candidate.now)) }
 {
     let group = match candidate.group {

@@ -148,3 +148,71 @@ fn a_receive_of_none_is_refused(rt: HostRuntime) -> Result<(), Fail> {
     assert!(rt; it.statement(1, 0, &none) == Err(Refusal::BadNumber(0)));
     Ok(())
 }
+
+fn copied(alloc: Global, log: &[Entry]) -> Result<Vec<Entry>, Fail> {
+    let mut copy = Vec::new(alloc);
+    for entry in log {
+        copy.push(entry.clone()?)?;
+    }
+    Ok(copy)
+}
+
+/// An instance that notes nothing yet is asked the same, and has to answer the same.
+fn ask(rt: &impl Abort, alloc: Global, it: &mut Instance, request: &Request) -> Result<(), Fail>
+    requires { IsTrue (is_first_path request.now) }
+{
+    let mut other = Instance::ready(alloc, copied(alloc, it.log())?)?;
+    let own = it.statement(1, 0, request);
+    assert!(rt; own == other.statement(1, 0, request));
+    assert_eq!(rt; it.log().len(), other.log().len());
+    Ok(())
+}
+
+/// Hands the next message over, if there is one.
+fn hand_next(it: &mut Instance, handed: &mut u64) -> Result<(), Fail> {
+    let next = handed.wrapping_add(1);
+    if it.can_hand_over(NEAR, next) {
+        let _ = it.hand_over(NEAR, next)?;
+        *handed = next;
+    }
+    Ok(())
+}
+
+fn act(
+    rt: &impl Abort,
+    alloc: Global,
+    it: &mut Instance,
+    handed: &mut u64,
+    kind: u32,
+) -> Result<(), Fail> {
+    match kind {
+        0 => ask(rt, alloc, it, &send(alloc, A + 1)?),
+        1 => hand_next(it, handed),
+        2 => ask(rt, alloc, it, &receive(alloc, "FarQ", Some(1))?),
+        3 => ask(rt, alloc, it, &receive(alloc, "NearQ", Some(1))?),
+        _ => ask(rt, alloc, it, &receive(alloc, "FarQ", None)?),
+    }
+}
+
+/// Two messages are sent and handed over, and then four acts follow.
+fn play(rt: &impl Abort, alloc: Global, script: u32) -> Result<(), Fail> {
+    let mut it = dialog(alloc)?;
+    let mut handed = 0;
+    let mut left = script;
+    for kind in [0, 0, 1, 1] {
+        act(rt, alloc, &mut it, &mut handed, kind)?;
+    }
+    for _ in 0..4 {
+        act(rt, alloc, &mut it, &mut handed, left % 5)?;
+        left /= 5;
+    }
+    Ok(())
+}
+
+#[test]
+fn what_is_noted_answers_as_the_log_does(rt: HostRuntime) -> Result<(), Fail> {
+    for script in 0..625 {
+        play(&rt, rt.alloc(), script)?;
+    }
+    Ok(())
+}

@@ -16,7 +16,7 @@ pub invariant_of-self-2 : goal.invariant_of-self-2
 invariant_of-self-2 c =
     let longer_is : c.push.new.self.items ≡ longer c.self.inside.log.items (partner c.args.known.side) c.args.number c.in-Some.content =
     c.in_ok-push.ensures.items ∙ ap (λ r. c.self.inside.log.items ++ Accepted r c.args.number None c.in-Some.content ∷ []) c.partner.ensures in
-    sound_carrying c.self.inside.who c.push.new.self.items c.self.inside.next_handle None (Some _) c.clear.new.self.items
+    sound_carrying c.self.inside.who c.push.new.self.items c.self.inside.next_handle None (Some _) c.clear.new.self.items None
     (sound_cleared c.self.inside.who c.push.new.self.items c.self.inside.next_handle c.clear.new.self.items c.self.invariant.small c.clear.ensures.items)
     (noted_next c.args.self.now c.self.inside.who c.self.inside.log.items c.as_slice.result.now c.push.new.self.items c.self.inside.next_handle c.self.inside.next_tx
     c.args.known _ c.args.number c.in-Some.content c.pop_front.new.self.items c.self.view_is c.as_slice.ensures.value c.requires.known c.requires.next c.in-Some.ensures.items

@@ -4,7 +4,7 @@ use Rattle.sb_model.specs.Pick.{pick}
 use Rattle.sb_model.specs.Replies.{received}
 use Rattle.sb_instance.specs.Asked.{ask_of}
 use Rattle.sb_instance.proofs.Taking.{receive_commits_at, receive_refuses_at}
-use Rattle.sb_instance.proofs.instance.Instance.receive.Goals as goal
+use Rattle.sb_instance.proofs.instance.Instance.receive_any.Goals as goal
 
 pub returns-in-Err : goal.returns-in-Err
 returns-in-Err c session now =
