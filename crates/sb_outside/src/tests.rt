@@ -1,6 +1,6 @@
 //! The forms in memory with calls that fail, and standard output over a runtime of our own.
 
-use crate::{Failed, MemSink, MemSource, Sink, Source, StdSink};
+use crate::{Failed, MemSink, MemSource, Sink, Source, StdSink, StdSource};
 use std::fmt::Display;
 use std::io;
 use std::test::Fail;
@@ -64,4 +64,17 @@ fn standard_output_that_takes_nothing_fails(rt: HostRuntime) {
     assert_eq!(rt; StdSink::new(Narrow(Some(0))).write(b"abc"), Err(Failed));
     assert_eq!(rt; StdSink::new(Narrow(Some(0))).write(b""), Ok(0));
     assert_eq!(rt; StdSink::new(Narrow(None)).write(b"abc"), Err(Failed));
+}
+
+// A test has nothing on its standard input.
+#[test]
+fn standard_input_with_nothing_is_at_its_end(rt: HostRuntime) {
+    let mut piece = [7u8; 3];
+    assert_eq!(rt; StdSource::new(rt).read(&mut piece), Ok(0));
+    assert_eq!(rt; piece, [7u8; 3]);
+}
+
+#[test]
+fn standard_output_takes_a_piece(rt: HostRuntime) {
+    assert_eq!(rt; StdSink::new(rt).write(b"piece\n"), Ok(6));
 }
