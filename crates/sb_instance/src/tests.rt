@@ -178,6 +178,18 @@ fn hand_next(it: &mut Instance, handed: &mut u64) -> Result<(), Fail> {
     Ok(())
 }
 
+fn request(alloc: Global, kind: u32) -> Result<Request, Fail>
+    ensures { IfOk result (λ request. IsTrue (is_first_path request)) }
+{
+    match kind {
+        0 => send(alloc, A + 1),
+        2 => receive(alloc, "FarQ", Some(1)),
+        3 => receive(alloc, "NearQ", Some(1)),
+        _ => receive(alloc, "FarQ", None),
+    }
+}
+
+/// A hand-over, or a statement.
 fn act(
     rt: &impl Abort,
     alloc: Global,
@@ -185,13 +197,11 @@ fn act(
     handed: &mut u64,
     kind: u32,
 ) -> Result<(), Fail> {
-    match kind {
-        0 => ask(rt, alloc, it, &send(alloc, A + 1)?),
-        1 => hand_next(it, handed),
-        2 => ask(rt, alloc, it, &receive(alloc, "FarQ", Some(1))?),
-        3 => ask(rt, alloc, it, &receive(alloc, "NearQ", Some(1))?),
-        _ => ask(rt, alloc, it, &receive(alloc, "FarQ", None)?),
+    if kind == 1 {
+        return hand_next(it, handed);
     }
+    let request = request(alloc, kind)?;
+    ask(rt, alloc, it, &request)
 }
 
 /// Two messages are sent and handed over, and then four acts follow.
