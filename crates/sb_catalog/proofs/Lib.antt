@@ -1,0 +1,13 @@
+pub mod Entries
+pub mod Parts
+pub mod Judged
+pub mod Known
+pub mod Arrivals
+pub mod Growth
+pub mod Finding
+pub mod Listing
+pub mod Chains
+pub mod Allowed
+pub mod Judging
+pub mod Counting
+pub mod Newness

@@ -1,0 +1,9 @@
+use Rattle.std.proofs.Common.{ap, ◌∙◌}
+use Rattle.std.specs.Prelude.{is_some}
+use Rattle.sb_model.specs.Catalog.{find_queue}
+use Rattle.sb_catalog.specs.Known.{log_of}
+use Rattle.sb_catalog.proofs.Finding.{queue_found}
+use Rattle.sb_catalog.proofs.catalog.Catalog.has_queue.Goals as goal
+
+pub returns : goal.returns
+returns c = c.has.ensures ∙ ap is_some (queue_found c.self.inside c.args.name.now ∙ ap (λ k. find_queue (log_of k) c.args.name.now) c.self.view_is)

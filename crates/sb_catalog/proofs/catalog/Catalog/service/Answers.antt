@@ -1,0 +1,8 @@
+use Rattle.std.proofs.Common.{ap, ◌∙◌}
+use Rattle.sb_model.specs.Catalog.{find_service}
+use Rattle.sb_catalog.specs.Known.{log_of}
+use Rattle.sb_catalog.proofs.Finding.{service_found}
+use Rattle.sb_catalog.proofs.catalog.Catalog.service.Goals as goal
+
+pub returns : goal.returns
+returns c = c.get.ensures ∙ service_found c.self.inside c.args.name.now ∙ ap (λ k. find_service (log_of k) c.args.name.now) c.self.view_is

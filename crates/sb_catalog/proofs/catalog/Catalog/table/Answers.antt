@@ -1,0 +1,8 @@
+use Rattle.std.proofs.Common.{ap, ◌∙◌}
+use Rattle.sb_model.specs.Catalog.{find_table}
+use Rattle.sb_catalog.specs.Known.{log_of}
+use Rattle.sb_catalog.proofs.Finding.{table_found}
+use Rattle.sb_catalog.proofs.catalog.Catalog.table.Goals as goal
+
+pub returns : goal.returns
+returns c = c.get.ensures ∙ table_found c.self.inside c.args.name.now ∙ ap (λ k. find_table (log_of k) c.args.name.now) c.self.view_is
