@@ -1,5 +1,5 @@
 -- Messages that are handed over, by their numbers.
-use Rattle.std.proofs.Common.{◌≡◌, ℕ, ◌+◌, ◌%◌, ◌^◌, ◌<◌, List, ◌++◌, length, get_or, map, drop, refl, ap, sym, subst, ◌∙◌, arith}
+use Rattle.std.proofs.Common.{◌≡◌, ℕ, ◌+◌, ◌%◌, ◌^◌, ◌<◌, List, [], ◌∷◌, ◌++◌, length, get_or, map, drop, refl, ap, sym, subst, ◌∙◌, arith}
 use Rattle.std.specs.Prelude.{zero, suc, Option, Some, None, Result, Ok, Err, IfOk, flat_map, is_some}
 use Rattle.sb_log.specs.declared.entries.Entry.{Entry}
 use Rattle.sb_log.specs.declared.identifiers.SideId.{SideId}
@@ -60,6 +60,15 @@ pub entry_added : (who : Who) (log : List Entry) (next tx : ℕ) (d : Data) → 
 entry_added who log next tx d h =
     let small : next ≡ (next + 0) % 2 ^ 64 = omega arith in
     ap (λ (n : ℕ). accepted_entry log (id ((instance_id who).0 + n)) (id ((instance_id who).0 + (next + 1) % 2 ^ 64)) d) small
+
+-- what is left where it was added
+pub entry_accepted : (before : Part) (who : Who) (log seen later : List Entry) (next tx : ℕ) (d : Data) (e : Entry) → running who log next tx ≡ before → seen ≡ log → next < 2 ^ 64
+    → e ≡ accepted_entry seen (id ((instance_id who).0 + next)) (id ((instance_id who).0 + (next + 1) % 2 ^ 64)) d → later ≡ log ++ e ∷ [] → running who later next tx ≡ taken_in before d Next
+entry_accepted before who log seen later next tx d e is sees small made written =
+    subst (λ (p : Part). running who later next tx ≡ taken_in p d Next) is
+    (ap (λ (l : List Entry). running who l next tx)
+    (written ∙ ap (λ (x : Entry). log ++ x ∷ [])
+    (made ∙ ap (λ (l : List Entry). accepted_entry l (id ((instance_id who).0 + next)) (id ((instance_id who).0 + (next + 1) % 2 ^ 64)) d) sees ∙ entry_added who log next tx d small)))
 
 -- one side more
 pub pending_step : (who : Who) (log : List Entry) (known : List MadeSide) (i : ℕ) (m : MadeSide) → i < length known → m ≡ get_or known i m → flat_map (pending_in who log) (map making_of (drop i known)) ≡ pending_in who log (making_of m) ++ flat_map (pending_in who log) (map making_of (drop (i + 1) known))

@@ -1,6 +1,7 @@
 pub mod Carried
 pub mod Handed
 pub mod Known
+pub mod Learned
 pub mod Lines
 pub mod Marking
 pub mod Noted
@@ -12,3 +13,4 @@ pub mod Stepping
 pub mod Taking
 pub mod Untaken
 pub mod Waited
+pub mod Writing

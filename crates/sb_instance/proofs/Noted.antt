@@ -6,8 +6,9 @@ use Rattle.sb_log.specs.declared.entries.Entry.{Entry}
 use Rattle.sb_log.specs.declared.entries.Op.{Op}
 use Rattle.sb_log.specs.declared.identifiers.Who.{Who}
 use Rattle.sb_model.specs.Statements.{txn_entries}
+use Rattle.sb_catalog.specs.Known.{Known}
 use Rattle.sb_instance.specs.Carrying.{IsCarried}
-use Rattle.sb_instance.specs.Noted.{IsSound}
+use Rattle.sb_instance.specs.Noted.{IsOfLog, IsSound}
 use Rattle.sb_instance.specs.Sending.{AreSending, IsQuiet, MaySend}
 use Rattle.sb_instance.specs.Waiting.{IsWaiting}
 use Rattle.sb_instance.specs.declared.carrying.Carrying.{Carrying}
@@ -48,3 +49,9 @@ pub sound_waiting : (who : Who) (log : List Entry) (next : ℕ) (noted : Option 
     → IfSome after (IsWaiting log) → IsSound who log next noted sending after
 sound_waiting who log next noted sending waiting after sound waits =
     record { small = sound.small; carrying_so = sound.carrying_so; sending_so = sound.sending_so; waiting_so = waits }
+
+-- what is noted may be forgotten
+pub forgotten : (who : Who) (log : List Entry) (next : ℕ) (noted : Option Carrying) (sending after : List Sending) (waiting : Option Waiting) (catalog : Known) →
+    IsOfLog who log next noted sending waiting catalog → after ≡ [] → IsOfLog who log next None after None catalog
+forgotten who log next noted sending after waiting catalog are none =
+    record { noted = sound_cleared who log next after are.noted.small none; catalog_so = are.catalog_so }

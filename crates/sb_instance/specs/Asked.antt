@@ -1,4 +1,4 @@
--- The requests of the first path, and how they are answered.
+-- The requests that an instance answers, and how it answers them.
 use Rattle.std.specs.Prelude.{◌≡◌, ◌⊎◌, ⊤, ℕ, Bool, true, false, List, [], ◌∷◌, Option, None, Result, Ok, Err}
 use Rattle.sb_log.specs.declared.identifiers.SideId.{SideId}
 use Rattle.sb_log.specs.declared.identifiers.Who.TheVariants.{A}
@@ -20,11 +20,13 @@ use Rattle.sb_instance.specs.Running.{IsDone}
 use Rattle.sb_instance.specs.declared.stopped.Stopped.{Stopped}
 use Rattle.sb_instance.specs.declared.stopped.Stopped.TheVariants as stopped
 
--- a SEND or a RECEIVE
-abbrev pub is_first_path : Request → Bool
-is_first_path (request.Send handle kind body) = true
-is_first_path (request.Receive queue top filter) = true
-is_first_path _ = false
+-- SEND, RECEIVE, a definition or ALTER QUEUE
+abbrev pub is_built : Request → Bool
+is_built (request.Define ddl) = true
+is_built (request.AlterQueue queue on) = true
+is_built (request.Send handle kind body) = true
+is_built (request.Receive queue top filter) = true
+is_built _ = false
 
 -- the defined reply and instance; want of memory leaves the instance as it was
 abbrev pub Answers : Part → ℕ → ℕ → Request → Result Reply Refusal → Part → Type 0

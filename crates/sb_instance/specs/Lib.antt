@@ -5,6 +5,7 @@ pub mod Handing
 pub mod Carrying
 pub mod Sending
 pub mod Waiting
+pub mod Learning
 pub mod Noted
 pub mod Candidates
 pub mod Giving

@@ -1,5 +1,5 @@
 -- An instance that is up, has no journal and no open transaction, and what a step leaves of it.
-use Rattle.std.specs.Prelude.{◌≡◌, ◌++◌, ℕ, true, List, [], None, Result, Ok, Err}
+use Rattle.std.specs.Prelude.{◌≡◌, ◌++◌, ◌∷◌, ℕ, true, List, [], None, Result, Ok, Err}
 use Rattle.sb_log.specs.declared.identifiers.Who.{Who}
 use Rattle.sb_log.specs.declared.entries.Entry.{Entry}
 use Rattle.sb_log.specs.declared.steps.Answer.{Answer}
@@ -7,6 +7,7 @@ use Rattle.sb_log.specs.declared.entries.Op.{Op}
 use Rattle.sb_log.specs.declared.refusals.Refusal.{Refusal}
 use Rattle.sb_log.specs.declared.refusals.Refusal.TheVariants as refusal
 use Rattle.sb_log.specs.declared.requests.Reply.{Reply}
+use Rattle.sb_log.specs.declared.requests.Reply.TheVariants as reply
 use Rattle.sb_model.specs.Instance.{Part, Done}
 use Rattle.sb_model.specs.Statements.{drew_tx, txn_entries}
 use Rattle.sb_instance.specs.declared.stopped.Stopped.{Stopped}
@@ -41,6 +42,11 @@ committed p ops = record (drew_tx p) { log = p.log ++ txn_entries p.next_tx ops 
 abbrev pub Commits : Part → List Op → Reply → Result Reply Refusal → Part → Type 0
 Commits before ops told (Ok given) after = (given ≡ told) × (after ≡ committed before ops)
 Commits before ops told (Err r) after = (r ≡ refusal.OutOfMemory) × (after ≡ before)
+
+-- one more entry and no transaction, or want of memory
+abbrev pub Writes : Part → Entry → Result Reply Refusal → Part → Type 0
+Writes before e (Ok given) after = (given ≡ reply.Done) × (after ≡ record before { log = before.log ++ e ∷ [] })
+Writes before e (Err r) after = (r ≡ refusal.OutOfMemory) × (after ≡ before)
 
 -- a refused statement has drawn its number
 abbrev pub Refuses : Part → Stopped → Refusal → Part → Type 0

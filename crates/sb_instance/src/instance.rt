@@ -1,34 +1,42 @@
 //! The instance and its steps.
 
-ghost use Rattle.std.specs.Prelude.{◌≡◌, ◌<◌, ◌≤◌, ◌^◌, ◌+◌, ◌++◌, ◌∷◌, [], ℕ, None, Some, IfOk, IfSome, IsTrue, OnOk, OnErr, IsSome, flat_map, is_some, map, pos};
+ghost use Rattle.std.specs.Prelude.{◌≡◌, ◌<◌, ◌≤◌, ◌^◌, ◌+◌, ◌++◌, ◌∷◌, [], ℕ, None, Some, IfErr, IfOk, IfSome, IsTrue, OnOk, OnErr, IsSome, flat_map, is_some, map, pos};
+ghost use Rattle.sb_log.specs.declared.entries.Entry.TheVariants.{Defined, QueueSet};
 ghost use Rattle.sb_log.specs.declared.entries.Op.TheVariants.{Send};
 ghost use Rattle.sb_log.specs.declared.identifiers.Who.TheVariants.{A};
 ghost use Rattle.sb_log.specs.declared.requests.Filter.TheVariants as filters;
 ghost use Rattle.sb_log.specs.declared.requests.Reply.TheVariants as reply;
 ghost use Rattle.sb_log.specs.declared.requests.Request.TheVariants as request;
+ghost use Rattle.sb_model.specs.Catalog.{find_queue};
+ghost use Rattle.sb_model.specs.Definitions.{define_refusal};
 ghost use Rattle.sb_model.specs.Instance.{opened};
 ghost use Rattle.sb_model.specs.Statements.{txn_entries};
-ghost use Rattle.sb_instance.specs.Asked.{Answers, is_first_path};
+ghost use Rattle.sb_instance.specs.Asked.{Answers, is_built};
 ghost use Rattle.sb_log.specs.declared.steps.Verdict.TheVariants.{Next};
 ghost use Rattle.sb_model.specs.Sides.{sides};
 ghost use Rattle.sb_model.specs.Steps.{to_hand_over};
 ghost use Rattle.sb_instance.specs.Candidates.{takes};
 ghost use Rattle.sb_instance.specs.Handing.{HandsOver, pending_by, taken_in};
+ghost use Rattle.sb_instance.specs.Learning.{IsBad};
 ghost use Rattle.sb_instance.specs.Carrying.{IsCarried};
-ghost use Rattle.sb_instance.specs.Running.{Commits, Refuses};
+ghost use Rattle.sb_instance.specs.Running.{Commits, Refuses, Writes};
 ghost use Rattle.sb_instance.specs.Sending.{IsQuiet};
 ghost use Rattle.sb_instance.specs.Waiting.{IsWaiting, TakesNone};
 
 use crate::carrying::{Carrying, behind, is_type_refused};
 use crate::counters::{next_handle, next_tx};
+use crate::defining::{copied, is_on, no_queue, push_definition, push_setting};
 use crate::handing::{Pending, accepted_entry, all_pending, carried, is_carried};
+use crate::learning::learned;
 use crate::receiving::{check_receive, picked, takings};
 use crate::sending::{Sending, check_send, kind_of, note};
 use crate::stopped::Stopped;
+use crate::unready::Unready;
 use crate::waiting::{Waiting, waiting_in};
+use sb_catalog::Catalog;
 use sb_log::{
-    Body, Data, Entry, Filter, Handle, Listed, Name, Op, ReceivedItem, Refusal, Reply, Request,
-    SideId, Verdict, Who,
+    Body, Data, Ddl, Entry, Filter, Handle, Listed, Name, Op, ReceivedItem, Refusal, Reply,
+    Request, SideId, Verdict, Who,
 };
 use sb_scan::{partner, verdict};
 use std::alloc::{AllocError, Global};
@@ -42,6 +50,8 @@ pub struct Instance {
     log: Vec<Entry>,
     next_handle: u64,
     next_tx: u64,
+    // What the log defines and sets.
+    catalog: Catalog,
     // What is known of the side whose message was handed over last, if the log ends with it.
     carrying: Option<Carrying>,
     // Sides that are known to be ones that may send.
@@ -57,14 +67,14 @@ impl Model for Instance {
     ghost use Rattle.sb_model.specs.Sides.{sides};
     ghost use Rattle.sb_model.specs.Steps.{to_hand_over};
     ghost use Rattle.sb_instance.specs.Handing.{HandsOver, pending_by, taken_in};
-    ghost use Rattle.sb_instance.specs.Noted.{IsSound};
+    ghost use Rattle.sb_instance.specs.Noted.{IsOfLog};
     ghost use Rattle.sb_instance.specs.Running.{running};
 
     ghost Value = { Part };
 
     ghost view = { λ a. running a.who a.log.items a.next_handle a.next_tx };
 
-    ghost invariant = { λ a. IsSound a.who a.log.items a.next_handle a.carrying a.sending.items a.waiting };
+    ghost invariant = { λ a. IsOfLog a.who a.log.items a.next_handle a.carrying a.sending.items a.waiting a.catalog };
 }
 
 fn push_transaction(log: &mut Vec<Entry>, tx: u64, ops: Vec<Op>) -> Result<(), AllocError>
@@ -96,9 +106,11 @@ fn send_ops(
 
 impl Instance {
     /// The instance A, up, over these entries, with no journal.
-    pub fn ready(alloc: Global, log: Vec<Entry>) -> Result<Instance, AllocError>
-        ensures { IfOk result (λ it. it ≡ opened A log.items None) }
+    pub fn ready(alloc: Global, log: Vec<Entry>) -> Result<Instance, Unready>
+        ensures ready { IfOk result (λ it. it ≡ opened A log.items None) }
+        ensures bad { IfErr result (IsBad log.items) }
     {
+        let catalog = learned(alloc, log.as_slice())?;
         let next_handle = next_handle(Who::A, log.as_slice());
         let next_tx = next_tx(log.as_slice());
         Ok(Instance {
@@ -107,6 +119,7 @@ impl Instance {
             log,
             next_handle,
             next_tx,
+            catalog,
             carrying: None,
             sending: Vec::new(alloc),
             waiting: None,
@@ -120,17 +133,83 @@ impl Instance {
         self.log.as_slice()
     }
 
-    /// Does a SEND or RECEIVE of a session that has no transaction open.
+    /// Does a definition, ALTER QUEUE, SEND or RECEIVE of a session that has no transaction
+    /// open.
     pub fn statement(&mut self, session: u8, now: u64, request: &Request) -> Result<Reply, Refusal>
-        requires built { IsTrue (is_first_path request.now) }
+        requires built { IsTrue (is_built request.now) }
         requires early { now < 2 ^ 62 }
         requires session { (1 ≤ session) × (session ≤ 9) }
         ensures answered { Answers self.old session now request.now result self.new }
     {
         match request {
+            Request::Define(ddl) => self.define(ddl),
+            Request::AlterQueue { queue, on } => self.alter_queue(queue, *on),
             Request::Send { handle, kind, body } => self.send(*handle, kind, body),
             Request::Receive { queue, top, filter } => self.receive(queue, *top, *filter),
             _ => unreachable!(),
+        }
+    }
+
+    fn define(&mut self, ddl: &Ddl) -> Result<Reply, Refusal>
+        ensures { (session now : ℕ) → Answers self.old session now (request.Define ddl.now) result self.new }
+    {
+        match self.catalog.define(ddl) {
+            Err(why) => Err(why),
+            Ok(()) => self.write_definition(ddl),
+        }
+    }
+
+    /// The catalog makes room first, so that it takes up what the log got.
+    fn write_definition(&mut self, ddl: &Ddl) -> Result<Reply, Refusal>
+        requires { define_refusal self.old.log ddl.now ≡ None }
+        ensures { Writes self.old (Defined ddl.now) result self.new }
+    {
+        let Ok(()) = self.catalog.reserve(ddl) else {
+            return Err(Refusal::OutOfMemory);
+        };
+        let Ok(copy) = copied(ddl) else {
+            return Err(Refusal::OutOfMemory);
+        };
+        match push_definition(&mut self.log, ddl) {
+            Err(_) => Err(Refusal::OutOfMemory),
+            Ok(()) => {
+                self.catalog.apply(copy);
+                self.carrying = None;
+                self.sending.clear();
+                self.waiting = None;
+                Ok(Reply::Done)
+            }
+        }
+    }
+
+    fn alter_queue(&mut self, queue: &Name, on: bool) -> Result<Reply, Refusal>
+        ensures { (session now : ℕ) → Answers self.old session now (request.AlterQueue queue.now on) result self.new }
+    {
+        match is_on(&self.catalog, queue) {
+            None => Err(no_queue(queue)),
+            Some(is_on) => {
+                if is_on == on {
+                    Ok(Reply::Done)
+                } else {
+                    self.write_setting(queue, on)
+                }
+            }
+        }
+    }
+
+    fn write_setting(&mut self, queue: &Name, on: bool) -> Result<Reply, Refusal>
+        requires { IsSome (find_queue self.old.log queue.now) }
+        ensures { Writes self.old (QueueSet queue.now on) result self.new }
+    {
+        match push_setting(&mut self.log, queue, on) {
+            Err(_) => Err(Refusal::OutOfMemory),
+            Ok(()) => {
+                self.catalog.set_queue(queue, on);
+                self.carrying = None;
+                self.sending.clear();
+                self.waiting = None;
+                Ok(Reply::Done)
+            }
         }
     }
 
@@ -398,5 +477,18 @@ impl Instance {
         self.waiting = None;
         self.log.push(entry)?;
         Ok(())
+    }
+}
+
+#[cfg(test)]
+impl Instance {
+    /// Forgets what is noted, so that the log is asked again.
+    #[tactic(auto, using(crate::proofs::Noted::forgotten))]
+    pub fn forget(&mut self)
+        ensures { self.new ≡ self.old }
+    {
+        self.carrying = None;
+        self.sending.clear();
+        self.waiting = None;
     }
 }

@@ -4,9 +4,11 @@
 mod candidates;
 mod carrying;
 mod counters;
+mod defining;
 mod facts;
 mod handing;
 mod instance;
+mod learning;
 mod marks;
 mod ordering;
 mod receiving;
@@ -14,7 +16,9 @@ mod sending;
 mod stopped;
 #[cfg(test)]
 mod tests;
+mod unready;
 mod waiting;
 
 pub use handing::Pending;
 pub use instance::Instance;
+pub use unready::Unready;

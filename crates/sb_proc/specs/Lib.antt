@@ -1,2 +1,13 @@
 pub mod Words
-pub mod Literals
+pub mod Scopes
+pub mod Folds
+pub mod Expressions
+pub mod Requests
+pub mod Replies
+pub mod Turns
+pub mod Does
+pub mod Machines
+pub mod Seen
+pub mod Asking
+pub mod Laws
+pub mod Steps

@@ -15,4 +15,5 @@ mod step;
 mod tests;
 mod value;
 
+pub use event::request_words;
 pub use step::{length, show};

@@ -1,22 +1,21 @@
 -- How a history follows commands, command by command.
 use Rattle.std.proofs.Common.{◌≡◌, ℕ, suc, zero, ◌+◌, ◌-◌, ◌<◌, ◌≤◌, arith, true, false, List, [], ◌∷◌, ◌++◌, Option, None, Some, Result, Ok, Err, refl, sym, ap, ◌∙◌, subst, append_assoc, append-nil}
-use Rattle.std.specs.Prelude.{MatchBool}
+use Rattle.std.specs.Prelude.{MatchBool, IsErrOf}
 use Rattle.sb_grammar.specs.declared.tree.Statement.{Statement}
 use Rattle.sb_instance.specs.declared.handing.Pending.{Pending}
 use Rattle.sb_log.specs.declared.identifiers.Actor.TheVariants as actor
 use Rattle.sb_log.specs.declared.identifiers.SideId.{SideId}
-use Rattle.sb_log.specs.declared.refusals.Refusal.TheVariants as refusal
-use Rattle.sb_log.specs.declared.requests.Request.{Request}
 use Rattle.sb_log.specs.declared.steps.Answer.TheVariants as answer
 use Rattle.sb_log.specs.declared.steps.Step.{Step}
 use Rattle.sb_log.specs.declared.steps.Verdict.{Verdict}
 use Rattle.sb_model.specs.Histories.{after, next}
 use Rattle.sb_model.specs.Steps.{World, verdict_told}
-use Rattle.sb_proc.specs.Words.{words_of}
 use Rattle.sb_script.specs.declared.commands.Command.{Command}
 use Rattle.sb_script.specs.declared.commands.Command.TheVariants as command
-use Rattle.sb_top.specs.Following.{Cleans, CleansSide, Does, DoesBatch, Follows, FollowsSoFar, HandsOver, InTurn, IsStepBy, IsStepOf, Passes, PassesBy, asked, asked_of, first_session, handed_over, is_refused, is_taken_in, not_yet, pending, unbuilt}
-use Rattle.sb_top.specs.Runs.{Begins, GoesBefore, Made, RefusedOne, WasToCome}
+use Rattle.sb_top.specs.Following.{Cleans, CleansSide, Does, DoesAll, Follows, FollowsSoFar, HandsOver, InTurn, Passes, PassesBy, begun, handed_over, is_taken_in, not_yet, pending, unbuilt}
+use Rattle.sb_top.specs.Runs.{Begins, GoesBefore, Made, MadeWith, OneMade, WasToCome, where_done}
+use Rattle.sb_top.proofs.Batches.{can_go_on}
+use Rattle.sb_proc.specs.Scopes.{Scope}
 use Rattle.sb_top.specs.declared.history.Stopped.{Stopped}
 use Rattle.sb_top.specs.declared.history.Stopped.TheVariants as stopped
 
@@ -24,21 +23,6 @@ abbrev nothing : List Step
 nothing = []
 
 -- ---- every command can be done
-
--- a statement has a step that is refused
-any_step : (o : Option Request) (s : Statement) → (step : Step) × IsStepBy o s step × (is_refused step.answer ≡ true)
-any_step None s = (not_yet first_session (words_of s), refl, refl)
-any_step (Some req) s = (asked req (answer.Refused refusal.NotYet None), refl, refl)
-
--- a step that is refused ends its batch
-batch_last : (w : World) (s : Statement) (ss : List Statement) (step : Step) → IsStepOf w s step → is_refused step.answer ≡ true → DoesBatch w (s ∷ ss) (step ∷ [])
-batch_last w s ss step by refused = (by, subst (λ b. MatchBool b (nothing ≡ []) (DoesBatch (next w step) ss [])) (sym refused) refl)
-
-pub can_batch : (w : World) (ss : List Statement) → (steps : List Step) × DoesBatch w ss steps
-can_batch w [] = ([], refl)
-can_batch w (s ∷ ss) =
-    let x = any_step (asked_of w s) s in
-    (x.0 ∷ [], batch_last w s ss x.0 x.1 x.2)
 
 pub can_hand_over : (s : SideId) (number count : ℕ) → (steps : List Step) × HandsOver s number count steps
 can_hand_over s number zero = ([], refl)
@@ -65,10 +49,17 @@ can_pass_by (Some word) = (not_yet actor.World word ∷ [], refl)
 can_pass : (c : Command) → (steps : List Step) × Passes c steps
 can_pass c = can_pass_by (unbuilt c)
 
-pub can_do : (w : World) (c : Command) → (steps : List Step) × Does w c steps
-can_do w (command.Batch text block) = can_batch w block
-can_do w command.Clean = can_clean w
-can_do w c = can_pass c
+pub can_do : (w : World) (s : Scope) (c : Command) → (steps : List Step) × (t : Scope) × Does w s c steps t
+can_do w s (command.Batch text block) = can_go_on (begun s text block)
+can_do w s command.Clean = let all = can_clean w in (all.0, s, (all.1, refl))
+can_do w s c = let all = can_pass c in (all.0, s, (all.1, refl))
+
+can_do_all : (w : World) (s : Scope) (cs : List Command) → (steps : List Step) × DoesAll w s cs steps
+can_do_all w s [] = ([], refl)
+can_do_all w s (c ∷ cs) =
+    let mine = can_do w s c in
+    let rest = can_do_all (after w mine.0) mine.1 cs in
+    (mine.0 ++ rest.0, (mine.0, rest.0, mine.1, refl, mine.2, rest.1))
 
 -- ---- all of them, or a beginning
 
@@ -135,37 +126,33 @@ pub begun_next_as : {X : Type 0} (why cause : Stopped) → why ≡ cause → (do
 begun_next_as why cause same does can v xs x ys all steps mine is before begun =
     subst (λ w. Begins w all (steps ++ mine)) (sym same) (begun_next cause does can v xs x ys all steps mine is before begun)
 
--- ---- the statements of a batch
+-- ---- commands
 
--- a statement was refused, and ends its batch
-pub statement_last : (w : World) (xs : List Statement) (s : Statement) (ss : List Statement) (step : Step) (whole : List Step → Type 0) (steps mine : List Step) → xs ≡ s ∷ ss
-    → GoesBefore (DoesBatch w xs) whole steps → mine ≡ step ∷ [] → IsStepOf w s step → true ≡ is_refused step.answer → whole (steps ++ mine)
-statement_last w xs s ss step whole steps mine is before one by refused =
-    let done : DoesBatch w xs (step ∷ []) =
-    subst (λ zs. DoesBatch w zs (step ∷ [])) (sym is) (by, subst (λ b. MatchBool b (nothing ≡ []) (DoesBatch (next w step) ss [])) refused refl) in
-    subst (λ z. whole (steps ++ z)) (sym one) (before (step ∷ []) done)
+-- the next command was done
+pub command_next : (w v : World) (s t : Scope) (cs : List Command) (c : Command) (rest : List Command) (whole : List Step → Type 0) (steps mine : List Step)
+    → cs ≡ c ∷ rest → GoesBefore (DoesAll w s cs) whole steps → Does w s c mine t → v ≡ after w mine → GoesBefore (DoesAll v t rest) whole (steps ++ mine)
+command_next w v s t cs c rest whole steps mine is before done state = λ more later.
+    subst whole (sym (append_assoc steps mine more))
+    (before (mine ++ more) (subst (λ z. DoesAll w s z (mine ++ more)) (sym is) (mine, more, t, refl, done, subst (λ z. DoesAll z t rest more) state later)))
 
--- a statement was done
-pub statement_next : (w v : World) (xs : List Statement) (s : Statement) (ss : List Statement) (step : Step) (whole : List Step → Type 0) (steps mine : List Step) → xs ≡ s ∷ ss
-    → GoesBefore (DoesBatch w xs) whole steps → mine ≡ step ∷ [] → IsStepOf w s step → false ≡ is_refused step.answer → v ≡ after w mine → GoesBefore (DoesBatch v ss) whole (steps ++ mine)
-statement_next w v xs s ss step whole steps mine is before one by done state = λ more rest.
-    let at : v ≡ next w step = state ∙ ap (after w) one in
-    let longer : DoesBatch w xs (step ∷ more) =
-    subst (λ zs. DoesBatch w zs (step ∷ more)) (sym is)
-    (by, subst (λ b. MatchBool b (more ≡ []) (DoesBatch (next w step) ss more)) done (subst (λ z. DoesBatch z ss more) at rest)) in
-    subst whole (ap (λ z. steps ++ (z ++ more)) (sym one) ∙ sym (append_assoc steps mine more)) (before (step ∷ more) longer)
+-- no command is left
+pub commands_done : (w : World) (s : Scope) (cs : List Command) (whole : List Step → Type 0) (steps : List Step) → cs ≡ [] → GoesBefore (DoesAll w s cs) whole steps → whole steps
+commands_done w s cs whole steps is before = subst whole (append-nil steps) (before [] (subst (λ z. DoesAll w s z nothing) (sym is) refl))
 
--- no statement is left
-pub statement_none : (w : World) (xs : List Statement) (whole : List Step → Type 0) (steps : List Step) → xs ≡ [] → GoesBefore (DoesBatch w xs) whole steps → whole steps
-statement_none w xs whole steps is before = subst whole (append-nil steps) (before [] (subst (λ zs. DoesBatch w zs nothing) (sym is) refl))
+-- the next command was begun
+pub command_begun : (why : Stopped) (w : World) (s : Scope) (cs : List Command) (c : Command) (rest : List Command) (whole : List Step → Type 0) (steps mine : List Step)
+    → cs ≡ c ∷ rest → GoesBefore (DoesAll w s cs) whole steps → Begins why (λ all. (t : Scope) × Does w s c all t) mine → Begins why whole (steps ++ mine)
+command_begun why w s cs c rest whole steps mine is before begun =
+    let all = mine ++ begun.0 in
+    let later = can_do_all (after w all) begun.2.0 rest in
+    let done : DoesAll w s cs (mine ++ (begun.0 ++ later.0)) =
+    subst (DoesAll w s cs) (append_assoc mine begun.0 later.0) (subst (λ z. DoesAll w s z (all ++ later.0)) (sym is) (all, later.0, begun.2.0, refl, begun.2.1, later.1)) in
+    begins_behind why (DoesAll w s cs) whole steps mine before (begun.0 ++ later.0, more_to_come why begun.0 later.0 begun.1, done)
 
--- the next statement wasn't done
-pub statement_cut : (why : Stopped) (w : World) (xs : List Statement) (s : Statement) (ss : List Statement) (whole : List Step → Type 0) (steps mine : List Step) → xs ≡ s ∷ ss
-    → GoesBefore (DoesBatch w xs) whole steps → mine ≡ [] → Begins why whole (steps ++ mine)
-statement_cut why w xs s ss whole steps mine is before none =
-    let x = any_step (asked_of w s) s in
-    begins_behind why (DoesBatch w xs) whole steps mine before
-    (subst (λ z. Begins why (DoesBatch w z) mine) (sym is) (subst (Begins why (DoesBatch w (s ∷ ss))) (sym none) (x.0 ∷ [], some_to_come why x.0 [], batch_last w s ss x.0 x.1 x.2)))
+-- what was made of a command, with what it leaves
+pub made_with : {X : Type 0} (r : Result X Stopped) (P : X → List Step → Type 0) (steps : List Step) → MadeWith r P steps → Begins stopped.OutOfMemory (λ all. (x : X) × P x all) steps
+made_with (Ok x) P steps h = ([], tt, (x, subst (P x) (sym (append-nil steps)) h))
+made_with (Err why) P steps h = (h.0, tt, h.2)
 
 -- ---- what isn't built
 
@@ -175,7 +162,7 @@ pass_cut why o word is =
     subst (λ z. Begins why (PassesBy z) []) (sym is) (not_yet actor.World word ∷ [], some_to_come why (not_yet actor.World word) [], refl)
 
 -- what was made of a command that is refused
-pub made_of_refused : {T : Type 0} (r : Result T Stopped) (o : Option (List ℕ)) (word : List ℕ) (steps : List Step) → o ≡ Some word → RefusedOne actor.World word r steps → Made r (PassesBy o) steps
+pub made_of_refused : {T : Type 0} (r : Result T Stopped) (o : Option (List ℕ)) (word : List ℕ) (steps : List Step) → o ≡ Some word → OneMade (not_yet actor.World word) r steps → Made r (PassesBy o) steps
 made_of_refused (Ok x) o word steps is h = subst (λ z. PassesBy z steps) (sym is) h
 made_of_refused (Err why) o word steps is h = subst (Begins why (PassesBy o)) (sym h) (pass_cut why o word is)
 
@@ -221,3 +208,23 @@ hand_cut why s place end whole xs ys inside before is =
     let done : HandsOver s (place + 1) (end - place) (step ∷ []) = subst (λ k. HandsOver s (place + 1) k (step ∷ [])) (sym (left_of place end inside)) (refl, refl) in
     begins_behind why (HandsOver s (place + 1) (end - place)) whole xs ys before
     (subst (Begins why (HandsOver s (place + 1) (end - place))) (sym is) (step ∷ [], some_to_come why step [], done))
+
+-- a command that is neither a batch nor a `:clean`
+passes_by : (w : World) (s : Scope) (c : Command) (steps : List Step) (t : Scope) → ((text : List ℕ) (block : List Statement) → c ≡ command.Batch text block → ⊥) → (c ≡ command.Clean → ⊥) → Passes c steps × (t ≡ s) → Does w s c steps t
+passes_by w s (command.Batch text block) steps t batch clean h = absurd (batch text block refl)
+passes_by w s command.Clean steps t batch clean h = absurd (clean refl)
+passes_by w s c steps t batch clean h = h
+
+-- a command that leaves the variables as they are
+pub made_same : (done : Result (Unit {0}) Stopped) (P : List Step → Type 0) (s : Scope) (steps : List Step) → Made done P steps → MadeWith (where_done done s) (λ t all. P all × (t ≡ s)) steps
+made_same (Ok x) P s steps h = (h, refl)
+made_same (Err why) P s steps h = (h.0, h.1, (s, (h.2, refl)))
+
+pub made_passing : (w : World) (s : Scope) (c : Command) (done : Result (Unit {0}) Stopped) (steps : List Step) → ((text : List ℕ) (block : List Statement) → c ≡ command.Batch text block → ⊥) → (c ≡ command.Clean → ⊥)
+    → Made done (Passes c) steps → MadeWith (where_done done s) (λ t all. Does w s c all t) steps
+made_passing w s c (Ok x) steps batch clean h = passes_by w s c steps s batch clean (h, refl)
+made_passing w s c (Err why) steps batch clean h = (h.0, h.1, (s, passes_by w s c (steps ++ h.0) s batch clean (h.2, refl)))
+
+pub full_where : {T : Type 0} (done : Result (Unit {0}) Stopped) (t : T) (why : Stopped) → IsErrOf (where_done done t) why → IsErrOf done why
+full_where (Ok x) t why e = cc
+full_where (Err cause) t why e = cc

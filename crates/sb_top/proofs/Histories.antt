@@ -78,6 +78,10 @@ goes_on_both a b c h i j P Q R p q join =
 pub goes_on_so : (a b : Part) (h i : List Step) (P Q : List Step → Type 0) → GoesOn a h b i P → ((xs : List Step) → P xs → Q xs) → GoesOn a h b i Q
 goes_on_so a b h i P Q p turn = record { more = p.more; longer_is = p.longer_is; roomy = p.roomy; quiet = p.quiet; legal = p.legal; state = p.state; plain = p.plain; so = turn p.more p.so }
 
+-- just these steps are so in another way
+pub goes_on_at : (a b : Part) (h i : List Step) (P Q : List Step → Type 0) (p : GoesOn a h b i P) → Q p.more → GoesOn a h b i Q
+goes_on_at a b h i P Q p so = record { more = p.more; longer_is = p.longer_is; roomy = p.roomy; quiet = p.quiet; legal = p.legal; state = p.state; plain = p.plain; so = so }
+
 -- all of a history that began empty is so
 pub so_all : (a b : Part) (h : List Step) (P : List Step → Type 0) → GoesOn a [] b h P → P h
 so_all a b h P p = subst P (sym p.longer_is) p.so

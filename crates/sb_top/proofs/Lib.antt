@@ -1,4 +1,5 @@
 pub mod Asking
+pub mod Batches
 pub mod Delivery
 pub mod Driving
 pub mod Completing

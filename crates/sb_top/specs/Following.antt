@@ -1,5 +1,5 @@
 -- Which histories follow a script.
-use Rattle.std.specs.Prelude.{◌≡◌, ℕ, zero, suc, ◌+◌, ◌-◌, ◌==◌, Bool, true, false, ◌&&◌, if◌then◌else◌, List, [], ◌∷◌, ◌++◌, flat_map, Option, None, Some, option_and_then, is_some, codes, MatchBool}
+use Rattle.std.specs.Prelude.{◌≡◌, ℕ, zero, suc, ◌+◌, ◌-◌, ◌==◌, pos, Bool, true, false, ◌&&◌, ◌||◌, if◌then◌else◌, List, [], ◌∷◌, ◌++◌, flat_map, Option, None, Some, codes, IsTrue, MatchBool}
 use Rattle.sb_log.specs.declared.identifiers.Actor.{Actor}
 use Rattle.sb_log.specs.declared.identifiers.Actor.TheVariants as actor
 use Rattle.sb_log.specs.declared.identifiers.Session.{Session}
@@ -7,7 +7,7 @@ use Rattle.sb_log.specs.declared.identifiers.SideId.{SideId}
 use Rattle.sb_log.specs.declared.identifiers.Who.TheVariants.{A}
 use Rattle.sb_log.specs.declared.refusals.Refusal.TheVariants as refusal
 use Rattle.sb_log.specs.declared.requests.Request.{Request}
-use Rattle.sb_log.specs.declared.requests.Request.TheVariants as request
+use Rattle.sb_log.specs.declared.refusals.Refusal.{Refusal}
 use Rattle.sb_log.specs.declared.steps.Answer.{Answer}
 use Rattle.sb_log.specs.declared.steps.Answer.TheVariants as answer
 use Rattle.sb_log.specs.declared.steps.Arrived.TheVariants as arrived
@@ -19,13 +19,16 @@ use Rattle.sb_grammar.specs.declared.tree.Statement.{Statement}
 use Rattle.sb_instance.specs.Handing.{pending_by}
 use Rattle.sb_instance.specs.declared.handing.Pending.{Pending}
 use Rattle.sb_laws.specs.Ready.{ready_log}
-use Rattle.sb_model.specs.Catalog.{find_queue}
 use Rattle.sb_model.specs.Histories.{after, first_world, next}
 use Rattle.sb_model.specs.Instance.{Part}
-use Rattle.sb_model.specs.Sides.{sides, same_who}
+use Rattle.sb_model.specs.Sides.{sides, same_name, same_who}
 use Rattle.sb_model.specs.Steps.{World}
-use Rattle.sb_proc.specs.Literals.{request_of}
-use Rattle.sb_proc.specs.Words.{words_of}
+use Rattle.sb_instance.specs.Asked.{is_built}
+use Rattle.sb_proc.specs.Does.{Deed, Does as DoesDeeds, Replied, Denied, Failed}
+use Rattle.sb_proc.specs.Machines.{Standing, standing, refusal_of}
+use Rattle.sb_proc.specs.Requests.{place_with}
+use Rattle.sb_proc.specs.Scopes.{Scope}
+use Rattle.sb_show.specs.Events.{request_words}
 use Rattle.sb_script.specs.declared.commands.Command.{Command}
 use Rattle.sb_script.specs.declared.commands.Command.TheVariants as command
 
@@ -42,37 +45,43 @@ first_session = actor.Session (record { instance = A; number = 1 })
 abbrev pub asked : Request → Answer → Step
 asked req given = record { who = first_session; event = event.Asked req; answer = given }
 
--- a statement or a command that isn't built: its words, refused
+-- a statement or a command that is refused by its words
+abbrev pub refused_words : Actor → List ℕ → Refusal → Step
+refused_words who words r = record { who = who; event = event.Words words; answer = answer.Refused r None }
+
+-- one that isn't built
 abbrev pub not_yet : Actor → List ℕ → Step
-not_yet who words = record { who = who; event = event.Words words; answer = answer.Refused refusal.NotYet None }
+not_yet who words = refused_words who words refusal.NotYet
 
--- a RECEIVE is from a queue that is there
-abbrev pub is_there : Part → Request → Bool
-is_there p (request.Receive queue top filter_by) = is_some (find_queue p.log queue)
-is_there p _ = true
+-- statements that are built: SEND, RECEIVE and those that need no instance
+abbrev pub is_built_word : List ℕ → Bool
+is_built_word words =
+    same_name words (codes "SEND") || same_name words (codes "RECEIVE") || same_name words (codes "DECLARE")
+    || same_name words (codes "SET") || same_name words (codes "IF")
 
--- what a statement asks, where it is built: a SEND or a RECEIVE whose values are literals
-abbrev pub asked_of : World → Statement → Option Request
-asked_of w s = option_and_then (λ req. if is_there w.a req then Some req else None) (request_of s)
+-- the step of a deed; what isn't built is refused by its words
+abbrev pub IsStepOf : Deed → Step → Type 0
+IsStepOf (Replied r given) step = IsTrue (is_built r) × (step ≡ asked r (answer.Replied given))
+IsStepOf (Denied r refused) step =
+    MatchBool (is_built r) (step ≡ asked r (answer.Refused refused None)) (step ≡ not_yet first_session (request_words r))
+IsStepOf (Failed words fault) step =
+    step ≡ refused_words first_session words (if is_built_word words then refusal_of fault else refusal.NotYet)
 
--- the step of a statement that isn't built, or one that asks, with any answer
-abbrev pub IsStepBy : Option Request → Statement → Step → Type 0
-IsStepBy None s step = step ≡ not_yet first_session (words_of s)
-IsStepBy (Some req) s step = step ≡ asked req step.answer
+-- of each deed its step, in order
+abbrev pub AreStepsOf : List Deed → List Step → Type 0
+AreStepsOf [] steps = steps ≡ []
+AreStepsOf (d ∷ deeds) [] = ⊥
+AreStepsOf (d ∷ deeds) (step ∷ steps) = IsStepOf d step × AreStepsOf deeds steps
 
-abbrev pub IsStepOf : World → Statement → Step → Type 0
-IsStepOf w s step = IsStepBy (asked_of w s) s step
+-- the steps of what is done from where a batch stands, and the variables that it leaves
+pub record DoesFrom (m : Standing) (steps : List Step) (after : Scope) : Type 0 where
+  pub deeds : List Deed
+  pub does : DoesDeeds m.place false m.rest m.scope deeds after
+  pub are_steps : AreStepsOf deeds steps
 
-abbrev pub is_refused : Answer → Bool
-is_refused (answer.Refused r _) = true
-is_refused _ = false
-
--- each statement once, in order, up to the first that is refused
-abbrev pub DoesBatch : World → List Statement → List Step → Type 0
-DoesBatch w [] steps = steps ≡ []
-DoesBatch w (s ∷ ss) [] = ⊥
-DoesBatch w (s ∷ ss) (step ∷ steps) =
-    IsStepOf w s step × MatchBool (is_refused step.answer) (steps ≡ []) (DoesBatch (next w step) ss steps)
+-- a batch of session 1, with its text
+abbrev pub begun : Scope → List ℕ → List Statement → Standing
+begun s text block = standing (place_with A text) block s
 
 -- ---- the steps of `:clean`
 
@@ -147,15 +156,25 @@ Passes c steps = PassesBy (unbuilt c) steps
 
 -- ---- commands
 
--- the steps of a command in a state
-abbrev pub Does : World → Command → List Step → Type 0
-Does w (command.Batch text block) steps = DoesBatch w block steps
-Does w command.Clean steps = Cleans w steps
-Does w c steps = Passes c steps
+-- the steps of a command in a state and with these variables, and the variables that it leaves
+abbrev pub Does : World → Scope → Command → List Step → Scope → Type 0
+Does w s (command.Batch text block) steps t = DoesFrom (begun s text block) steps t
+Does w s command.Clean steps t = Cleans w steps × (t ≡ s)
+Does w s c steps t = Passes c steps × (t ≡ s)
+
+-- the steps of commands in order, each in the state and with the variables that those before it leave
+abbrev pub DoesAll : World → Scope → List Command → List Step → Type 0
+DoesAll w s [] steps = steps ≡ []
+DoesAll w s (c ∷ cs) steps =
+    (mine : List Step) × (rest : List Step) × (t : Scope) × (steps ≡ mine ++ rest) × Does w s c mine t × DoesAll (after w mine) t cs rest
+
+-- no variable is declared, and no rows were counted
+abbrev pub no_variables : Scope
+no_variables = record { variables = []; rows = pos 0 }
 
 -- every command once, in order
 abbrev pub Follows : List Command → List Step → Type 0
-Follows commands history = InTurn Does first commands history
+Follows commands history = DoesAll first no_variables commands history
 
 -- a beginning of such a history
 abbrev pub FollowsSoFar : List Command → List Step → Type 0

@@ -1,5 +1,5 @@
 -- How full a history is.
-use Rattle.std.specs.Prelude.{◌≡◌, ℕ, ◌<◌, nat_le, Bool, false, ◌||◌, List, length, take}
+use Rattle.std.specs.Prelude.{◌≡◌, ℕ, suc, ◌<◌, nat_le, Bool, false, ◌||◌, List, length, take}
 use Rattle.sb_log.specs.declared.steps.Step.{Step}
 use Rattle.sb_show.specs.Transcript.{transcript}
 
@@ -15,3 +15,8 @@ is_full history = nat_le 200000 (length history) || nat_le 536870912 (length (tr
 -- no step came to a full history
 abbrev pub HasRoomThroughout : List Step → Type 0
 HasRoomThroughout history = (n : ℕ) → n < length history → is_full (take n history) ≡ false
+
+-- one step came to a history with room
+pub record IsLonger (before now : List Step) : Type 0 where
+  pub room : length before < 200000
+  pub one : length now ≡ suc (length before)

@@ -1,9 +1,10 @@
 -- How a history goes on.
-use Rattle.std.specs.Prelude.{◌≡◌, ◌⊎◌, ⊤, IsTrue, ℕ, ◌^◌, length, Bool, true, List, [], ◌∷◌, ◌++◌, None, Some, Result, Ok, Err}
-use Rattle.sb_grammar.specs.declared.tree.Statement.{Statement}
+use Rattle.std.specs.Prelude.{◌≡◌, ◌⊎◌, ⊤, IsTrue, ℕ, ◌^◌, length, Bool, true, false, List, [], ◌∷◌, ◌++◌, None, Some, Result, Ok, Err}
 use Rattle.sb_log.specs.declared.identifiers.Actor.{Actor}
 use Rattle.sb_log.specs.declared.identifiers.Actor.TheVariants as actor
-use Rattle.sb_log.specs.declared.steps.Answer.{Answer}
+use Rattle.sb_log.specs.declared.requests.Reply.{Reply}
+use Rattle.sb_log.specs.declared.requests.Request.{Request}
+use Rattle.sb_log.specs.declared.steps.Answer.TheVariants as answer
 use Rattle.sb_log.specs.declared.identifiers.SideId.{SideId}
 use Rattle.sb_log.specs.declared.steps.Verdict.{Verdict}
 use Rattle.sb_instance.specs.declared.handing.Pending.{Pending}
@@ -12,7 +13,7 @@ use Rattle.sb_model.specs.Catalog.{definitions}
 use Rattle.sb_model.specs.Messages.{numbered}
 use Rattle.sb_model.specs.Frames.{destination}
 use Rattle.sb_model.specs.Sides.{Making, made, same_who}
-use Rattle.sb_top.specs.Following.{IsStepOf, first, first_session, handed_over, is_refused, not_yet}
+use Rattle.sb_top.specs.Following.{DoesFrom, asked, first, first_session, handed_over}
 use Rattle.sb_top.specs.Room.{HasRoomThroughout}
 use Rattle.sb_show.specs.Transcript.{transcript}
 use Rattle.sb_show.specs.Values.{capped}
@@ -24,7 +25,11 @@ use Rattle.sb_log.specs.declared.identifiers.Who.TheVariants.{A, B}
 use Rattle.sb_log.specs.declared.steps.Step.{Step}
 use Rattle.sb_model.specs.Histories.{Gives, Legal, after, next, outcome}
 use Rattle.sb_model.specs.Instance.{Part, opened}
-use Rattle.sb_model.specs.Steps.{World, verdict_told}
+use Rattle.sb_model.specs.Steps.{World, is_of_words, verdict_told}
+use Rattle.sb_proc.specs.Machines.{Standing}
+use Rattle.sb_proc.specs.Scopes.{Scope}
+use Rattle.sb_log.specs.declared.refusals.Refusal.{Refusal}
+use Rattle.sb_log.specs.declared.refusals.Refusal.TheVariants as refusal
 
 -- the world where A is so, and nothing happened to B, the wire and the moment
 abbrev pub world_of : Part → World
@@ -83,24 +88,40 @@ abbrev pub HandedOne : SideId → ℕ → Result Verdict Stopped → List Step �
 HandedOne s number (Ok v) steps = steps ≡ handed_over s number (verdict_told v) ∷ []
 HandedOne s number (Err why) steps = steps ≡ []
 
--- one step, by whether it was refused, or none
-abbrev pub StepMade : (Answer → Step) → Result Bool Stopped → List Step → Type 0
-StepMade step (Ok refused) steps = (given : Answer) × (steps ≡ step given ∷ []) × (refused ≡ is_refused given)
-StepMade step (Err why) steps = steps ≡ []
+-- the one step of a request, by whether it was refused, or none
+abbrev pub AskMade : Request → Result Bool Stopped → List Step → Type 0
+AskMade r (Ok true) steps = (why : Refusal) × (steps ≡ asked r (answer.Refused why None) ∷ [])
+AskMade r (Ok false) steps = (given : Reply) × (steps ≡ asked r (answer.Replied given) ∷ [])
+AskMade r (Err why) steps = steps ≡ []
 
--- the one step of a statement, by whether it was refused, or none
-abbrev pub DoneOne : World → Statement → Result Bool Stopped → List Step → Type 0
-DoneOne w s (Ok refused) steps = (step : Step) × (steps ≡ step ∷ []) × IsStepOf w s step × (refused ≡ is_refused step.answer)
-DoneOne w s (Err why) steps = steps ≡ []
+-- all steps were made, by what came of them, or a beginning
+abbrev pub MadeWith : {T : Type 0} → Result T Stopped → (T → List Step → Type 0) → List Step → Type 0
+MadeWith (Ok x) P steps = P x steps
+MadeWith (Err why) P steps = Begins why (λ all. (x : _) × P x all) steps
 
--- the one step of what isn't built, or none
-abbrev pub RefusedOne : {T : Type 0} → Actor → List ℕ → Result T Stopped → List Step → Type 0
-RefusedOne who words (Ok done) steps = steps ≡ not_yet who words ∷ []
-RefusedOne who words (Err why) steps = steps ≡ []
+-- this, where all was done
+abbrev pub where_done : {T : Type 0} → Result (Unit {0}) Stopped → T → Result T Stopped
+where_done (Ok x) t = Ok t
+where_done (Err why) t = Err why
 
--- session 1 of A, or the world
-abbrev pub MayNotYet : Actor → Type 0
-MayNotYet who = (who ≡ first_session) ⊎ (who ≡ actor.World)
+-- what is done by the one machine, behind these steps, is done by the other
+abbrev pub LeadsThrough : Standing → List Step → Standing → Type 0
+LeadsThrough m steps n = (more : List Step) (t : Scope) → DoesFrom n more t → DoesFrom m (steps ++ more) t
+
+-- a batch went on, or ended, or stopped
+abbrev pub TurnMade : Standing → Standing → Result Bool Stopped → List Step → Type 0
+TurnMade m n (Ok true) steps = LeadsThrough m steps n
+TurnMade m n (Ok false) steps = DoesFrom m steps n.scope
+TurnMade m n (Err why) steps = Begins why (λ all. (t : Scope) × DoesFrom m all t) steps
+
+-- one step, or none
+abbrev pub OneMade : {T : Type 0} → Step → Result T Stopped → List Step → Type 0
+OneMade step (Ok done) steps = steps ≡ step ∷ []
+OneMade step (Err why) steps = steps ≡ []
+
+-- session 1 of A by a refusal that comes before it asks, or the world by NotYet
+abbrev pub MayRefuse : Actor → Refusal → Type 0
+MayRefuse who r = ((who ≡ first_session) × IsTrue (is_of_words r)) ⊎ ((who ≡ actor.World) × (r ≡ refusal.NotYet))
 
 -- what sides have to hand over stays
 pub record Keeps (p q : Part) : Type 0 where

@@ -15,6 +15,7 @@ use crate::perform::perform;
 use sb_instance::Instance;
 use sb_log::Step;
 use sb_outside::Sink;
+use sb_proc::Variables;
 use sb_script::Command;
 use std::alloc::Global;
 
@@ -42,13 +43,13 @@ fn why_stopped(stopped: Stopped, history: &History) -> Why
 /// Runs the commands, and writes the steps of each.
 pub fn drive<K: Sink>(
     alloc: Global,
-    commands: &[Command],
+    commands: Vec<Command>,
     instance: Instance,
     sink: &mut K,
 ) -> Ended
     requires { instance ≡ opened A ready_log None }
     ensures sound { IsSound result.history.items }
-    ensures ran { Ran result.why commands.now result.history.items }
+    ensures ran { Ran result.why commands.items result.history.items }
     ensures text { Wrote result.why (K.written sink.old) (K.written sink.new) result.history.items result.written_steps }
     ensures filled { HasFilled result.why result.history.items }
     ensures fault { result.why ≡ Why.WriteFault → Rose (K.faults sink.old) (K.faults sink.new) }
@@ -56,9 +57,10 @@ pub fn drive<K: Sink>(
 {
     let mut instance = instance;
     let mut history = History::new(alloc);
+    let mut variables = Variables::new(alloc);
     for command in commands {
         let written = history.len();
-        let done = perform(alloc, &mut instance, &mut history, command);
+        let done = perform(alloc, &mut instance, &mut history, variables, command);
         match write_steps(alloc, sink, steps_from(history.steps(), written)) {
             Ok(()) => {}
             Err(unwritten) => {
@@ -70,7 +72,7 @@ pub fn drive<K: Sink>(
             }
         }
         match done {
-            Ok(()) => {}
+            Ok(after) => variables = after,
             Err(stopped) => return stop(why_stopped(stopped, &history), history),
         }
     }

@@ -6,7 +6,7 @@ ghost use Rattle.sb_laws.specs.Ready as ready;
 ghost use Rattle.sb_log.specs.declared.identifiers.Who.TheVariants.{A};
 ghost use Rattle.sb_model.specs.Instance.{opened};
 
-use sb_instance::Instance;
+use sb_instance::{Instance, Unready};
 use sb_log::{Ddl, Entry, Handle, Header, Name, Names, Op, Ops, QueueDef, ServiceDef};
 use std::alloc::{AllocError, Global};
 
@@ -75,7 +75,11 @@ fn dialog(alloc: Global) -> Result<Entry, AllocError>
 pub fn instance(alloc: Global) -> Result<Instance, AllocError>
     ensures { IfOk result (λ instance. instance ≡ opened A ready.ready_log None) }
 {
-    Instance::ready(alloc, entries(alloc)?)
+    match Instance::ready(alloc, entries(alloc)?) {
+        Ok(instance) => Ok(instance),
+        Err(Unready::OutOfMemory) => Err(AllocError),
+        Err(Unready::BadLog) => unreachable!(),
+    }
 }
 
 // Two queues, a service on each, and a dialog between the services.

@@ -7,11 +7,11 @@ mod ending;
 mod first;
 mod history;
 mod input;
-mod not_built;
 mod output;
 mod perform;
 #[cfg(test)]
 mod plain_tests;
+mod refusals;
 mod statements;
 mod top;
 #[cfg(test)]

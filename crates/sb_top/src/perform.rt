@@ -3,32 +3,47 @@
 ghost use Rattle.std.specs.Prelude.{◌≡◌, true, IsErrOf, option_map};
 ghost use Rattle.sb_top.specs.Following as says;
 ghost use Rattle.sb_top.specs.Room.{is_full};
-ghost use Rattle.sb_top.specs.Runs.{GoesOn, IsPlain, Made, world_of};
+ghost use Rattle.sb_top.specs.Runs.{GoesOn, IsPlain, Made, MadeWith, where_done, world_of};
 
 use crate::clean::clean;
 use crate::history::{History, Stopped};
-use crate::not_built::refuse;
+use crate::refusals::refuse_unbuilt;
 use crate::statements::{SESSION, run_batch};
 use sb_instance::Instance;
 use sb_log::{Actor, Session};
+use sb_proc::Variables;
 use sb_script::Command;
 use std::alloc::Global;
 
-/// Does a command. Where it stops, a step that was to come isn't made, and left all as before.
+/// Does a command, and gives the variables that it leaves. Where it stops, a step that was to
+/// come isn't made, and left all as before.
 pub fn perform(
     alloc: Global,
     instance: &mut Instance,
     history: &mut History,
-    command: &Command,
-) -> Result<(), Stopped>
+    variables: Variables,
+    command: Command,
+) -> Result<Variables, Stopped>
     requires { IsPlain instance.old }
-    ensures goes { GoesOn instance.old history.old.steps instance.new history.new.steps (Made result (says.Does (world_of instance.old) command.now)) }
+    ensures goes { GoesOn instance.old history.old.steps instance.new history.new.steps (MadeWith result (λ after steps. says.Does (world_of instance.old) variables command steps after)) }
     ensures full { IsErrOf result Stopped.HistoryFull → is_full history.new.steps ≡ true }
 {
     match command {
-        Command::Batch { block, .. } => run_batch(alloc, instance, history, block.as_slice()),
-        Command::Clean => clean(alloc, instance, history),
-        _ => pass(alloc, instance, history, command),
+        Command::Batch { text, block } => {
+            run_batch(alloc, instance, history, variables, text, block)
+        }
+        Command::Clean => left(variables, clean(alloc, instance, history)),
+        command => left(variables, pass(alloc, instance, history, &command)),
+    }
+}
+
+// The variables as they were, where all was done.
+fn left(variables: Variables, done: Result<(), Stopped>) -> Result<Variables, Stopped>
+    ensures { result ≡ where_done done variables }
+{
+    match done {
+        Ok(()) => Ok(variables),
+        Err(stopped) => Err(stopped),
     }
 }
 
@@ -45,7 +60,7 @@ fn pass(
 {
     match unbuilt(command) {
         None => Ok(()),
-        Some(word) => refuse(alloc, instance, history, Actor::World, word),
+        Some(word) => refuse_unbuilt(alloc, instance, history, Actor::World, word),
     }
 }
 

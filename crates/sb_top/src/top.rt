@@ -95,7 +95,7 @@ fn session<S: Source, K: Sink>(
     };
     match first::instance(alloc) {
         Err(_) => end(Why::OutOfMemory, Vec::new(alloc), 0),
-        Ok(instance) => drive(alloc, commands.as_slice(), instance, sink),
+        Ok(instance) => drive(alloc, commands, instance, sink),
     }
 }
 

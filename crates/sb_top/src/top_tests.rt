@@ -91,11 +91,144 @@ fn tells(alloc: Global, script: &str, told: &str) -> Result<bool, Fail> {
 #[test]
 fn a_statement_that_is_not_built_ends_its_batch(rt: HostRuntime) -> Result<(), Fail> {
     let script =
-        "CREATE QUEUE Q RECEIVE * FROM NearQ\nGO\nreceive * from nowhere\nGO\nRECEIVE * FROM [NearQ]; IF 1 = 1 COMMIT\n";
-    let told = "A1 CREATE QUEUE: refused 33 NotYet
-A1 RECEIVE: refused 33 NotYet
+        "BEGIN TRANSACTION RECEIVE * FROM NearQ\nGO\nreceive * from nowhere\nGO\nRECEIVE * FROM [NearQ]; IF 1 = 1 COMMIT\nGO\nDELETE FROM T WHERE id = @none\n";
+    let told = "A1 BEGIN TRANSACTION: refused 33 NotYet
+A1 RECEIVE: refused 10 NoQueue [nowhere]
 A1 RECEIVE: received 0
-A1 IF: refused 33 NotYet
+A1 COMMIT: refused 33 NotYet
+A1 DELETE: refused 33 NotYet
+";
+    assert!(rt; tells(rt.alloc(), script, told)?);
+    Ok(())
+}
+
+#[test]
+fn variables_outlive_their_batch(rt: HostRuntime) -> Result<(), Fail> {
+    let script =
+        "DECLARE @h UNIQUEIDENTIFIER = 'a0000000-0000-0000-0000-000000000001', @b NVARCHAR(9)
+SEND ON CONVERSATION @h (N'x' + N'y')
+:clean
+RECEIVE TOP (2 - 1) @b = message_body FROM FarQ
+GO
+IF @b = N'xy' AND @@ROWCOUNT = 1 SEND ON CONVERSATION @h (@b + N'z') ELSE RETURN
+:clean
+RECEIVE * FROM FarQ
+SET @none = 1
+RECEIVE * FROM FarQ
+";
+    let told = "A1 SEND: ok
+world hand over a0000000-0000-0000-0000-000000000001 i 1: new
+A1 RECEIVE: received 1
+  1 a0000000-0000-0000-0000-000000000003 a0000000-0000-0000-0000-000000000004 [DEFAULT] 0x78007900
+A1 SEND: ok
+world hand over a0000000-0000-0000-0000-000000000001 i 2: next
+A1 RECEIVE: received 1
+  2 a0000000-0000-0000-0000-000000000003 a0000000-0000-0000-0000-000000000004 [DEFAULT] 0x780079007a00
+A1 SET: refused 2 NoVariable @none
+";
+    assert!(rt; tells(rt.alloc(), script, told)?);
+    Ok(())
+}
+
+// Each refusal, and behind it a statement that just isn't refused so.
+#[test]
+fn values_are_refused_where_they_do_not_fit(rt: HostRuntime) -> Result<(), Fail> {
+    let script = "SET @z = 1
+GO
+DECLARE @z BIGINT SET @z = 'x'
+GO
+SET @z = CAST('1' AS BIGINT) SET @z = 9223372036854775807 + @z
+GO
+SET @z = 9223372036854775806 + @z
+RECEIVE TOP (@z - @z) * FROM NearQ
+GO
+RECEIVE TOP (1) * FROM NearQ
+";
+    let told = "A1 SET: refused 2 NoVariable @z
+A1 SET: refused 3 WrongKind BIGINT
+A1 SET: refused 4 Overflow 9223372036854775807
+A1 RECEIVE: refused 23 BadNumber 0
+A1 RECEIVE: received 0
+";
+    assert!(rt; tells(rt.alloc(), script, told)?);
+    Ok(())
+}
+
+#[test]
+fn definitions_are_refused_where_they_lack(rt: HostRuntime) -> Result<(), Fail> {
+    let script = "CREATE QUEUE FarQ
+GO
+CREATE MESSAGE TYPE FarQ CREATE CONTRACT C (Pong SENT BY ANY)
+GO
+CREATE CONTRACT C (FarQ SENT BY TARGET)
+GO
+CREATE CONTRACT C (FarQ SENT BY INITIATOR) CREATE SERVICE S ON QUEUE FarQ (D)
+GO
+CREATE SERVICE S ON QUEUE FarQ (C) CREATE SERVICE T ON QUEUE Q
+GO
+ALTER QUEUE Q WITH STATUS = OFF
+";
+    let told = "A1 CREATE QUEUE: refused 7 NameTaken [FarQ]
+A1 CREATE MESSAGE TYPE: ok
+A1 CREATE CONTRACT: refused 8 NoMessageType [Pong]
+A1 CREATE CONTRACT: refused 14 NothingFromInitiator [C]
+A1 CREATE CONTRACT: ok
+A1 CREATE SERVICE: refused 9 NoContract [D]
+A1 CREATE SERVICE: ok
+A1 CREATE SERVICE: refused 10 NoQueue [Q]
+A1 ALTER QUEUE: refused 10 NoQueue [Q]
+";
+    assert!(rt; tells(rt.alloc(), script, told)?);
+    Ok(())
+}
+
+#[test]
+fn what_a_definition_names_must_be_there(rt: HostRuntime) -> Result<(), Fail> {
+    let script =
+        "CREATE QUEUE Q WITH ACTIVATION (PROCEDURE_NAME = P, MAX_QUEUE_READERS = 1, EXECUTE AS SELF)
+GO
+CREATE PROCEDURE P AS RETURN
+GO
+CREATE QUEUE Q WITH ACTIVATION (PROCEDURE_NAME = P, MAX_QUEUE_READERS = 1, EXECUTE AS SELF)
+CREATE BROKER PRIORITY X FOR CONVERSATION SET (LOCAL_SERVICE_NAME = S, PRIORITY_LEVEL = 10)
+GO
+CREATE BROKER PRIORITY X FOR CONVERSATION SET (LOCAL_SERVICE_NAME = Far, PRIORITY_LEVEL = 11)
+GO
+CREATE BROKER PRIORITY X FOR CONVERSATION SET (LOCAL_SERVICE_NAME = Far, PRIORITY_LEVEL = 10)
+RECEIVE * FROM Q
+";
+    let told = "A1 CREATE QUEUE: refused 11 NoProcedure [P]
+A1 CREATE PROCEDURE: ok
+A1 CREATE QUEUE: ok
+A1 CREATE BROKER PRIORITY: refused 12 NoService [S]
+A1 CREATE BROKER PRIORITY: refused 23 BadNumber 11
+A1 CREATE BROKER PRIORITY: ok
+A1 RECEIVE: received 0
+";
+    assert!(rt; tells(rt.alloc(), script, told)?);
+    Ok(())
+}
+
+#[test]
+fn a_queue_that_is_off_takes_nothing(rt: HostRuntime) -> Result<(), Fail> {
+    let script = "ALTER QUEUE FarQ WITH STATUS = OFF
+GO
+SEND ON CONVERSATION 'a0000000-0000-0000-0000-000000000001' (N'x')
+:clean
+RECEIVE TOP (1) * FROM FarQ
+GO
+ALTER QUEUE FarQ WITH STATUS = ON
+:clean
+RECEIVE TOP (1) * FROM FarQ
+";
+    let told = "A1 ALTER QUEUE: ok
+A1 SEND: ok
+world hand over a0000000-0000-0000-0000-000000000001 i 1: not here 4
+A1 RECEIVE: refused 24 QueueOff [FarQ]
+A1 ALTER QUEUE: ok
+world hand over a0000000-0000-0000-0000-000000000001 i 1: new
+A1 RECEIVE: received 1
+  1 a0000000-0000-0000-0000-000000000003 a0000000-0000-0000-0000-000000000004 [DEFAULT] 0x7800
 ";
     assert!(rt; tells(rt.alloc(), script, told)?);
     Ok(())

@@ -15,7 +15,7 @@ returns-in-Err c session now =
 
 pub returns-in-Ok-picked : goal.returns-in-Ok-picked
 returns-in-Ok-picked c session now =
-    let fits : c.self.inside.next_handle < 2 ^ 64 = c.self.invariant.small in
+    let fits : c.self.inside.next_handle < 2 ^ 64 = c.self.invariant.noted.small in
     receive_commits_at c.args.self.now c.self.inside.who c.self.inside.log.items c.as_slice-log.result.now c.self.inside.next_handle c.self.inside.next_tx
     session now c.args.queue.now c.args.top c.args.filter c.in-Ok-picked.items.items c.take.result c.take.new.self
     c.self.view_is c.as_slice-log.ensures.value fits c.in-Ok.ensures c.in-Ok-picked.ensures c.take.ensures

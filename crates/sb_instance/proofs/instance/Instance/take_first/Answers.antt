@@ -16,14 +16,17 @@ invariant_of-self c =
     let written : c.self-in-Ok.inside.log.items ≡ c.args.self.now.log ++ txn_entries c.args.self.now.next_tx (map (takes c.args.waiting.queue) c.in-Ok.items.items) =
     ap (λ (p : Part). p.log) (c.self-in-Ok.view_is ∙ c.in-Ok-take.ensures.1)
     ∙ ap (λ (q : Bytes). c.args.self.now.log ++ txn_entries c.args.self.now.next_tx (map (takes q) c.in-Ok.items.items)) c.take_first.ensures.queue in
-    sound_waiting c.self-in-Ok.inside.who c.self-in-Ok.inside.log.items c.self-in-Ok.inside.next_handle c.self-in-Ok.inside.carrying c.self-in-Ok.inside.sending.items
-    c.self-in-Ok.inside.waiting (Some _) c.self-in-Ok.invariant
-    (rest_waiting c.args.self.now c.take.new.self c.self-in-Ok.inside.who c.self-in-Ok.inside.log.items c.self-in-Ok.inside.next_handle c.self-in-Ok.inside.next_tx
-    c.args.waiting _ c.in-Ok.items.items c.self-in-Ok.view_is written c.requires c.in-Ok.ensures.first c.take_first.ensures.queue c.in-Ok.ensures.rest)
+    record {
+      noted = sound_waiting c.self-in-Ok.inside.who c.self-in-Ok.inside.log.items c.self-in-Ok.inside.next_handle c.self-in-Ok.inside.carrying c.self-in-Ok.inside.sending.items
+          c.self-in-Ok.inside.waiting (Some _) c.self-in-Ok.invariant.noted
+          (rest_waiting c.args.self.now c.take.new.self c.self-in-Ok.inside.who c.self-in-Ok.inside.log.items c.self-in-Ok.inside.next_handle c.self-in-Ok.inside.next_tx
+          c.args.waiting _ c.in-Ok.items.items c.self-in-Ok.view_is written c.requires c.in-Ok.ensures.first c.take_first.ensures.queue c.in-Ok.ensures.rest);
+      catalog_so = c.self-in-Ok.invariant.catalog_so;
+    }
 
 pub returns-in-Ok-take : goal.returns-in-Ok-take
 returns-in-Ok-take c session now =
-    let fits : c.self.inside.next_handle < 2 ^ 64 = c.self.invariant.small in
+    let fits : c.self.inside.next_handle < 2 ^ 64 = c.self.invariant.noted.small in
     let left : running c.self-in-Ok.inside.who c.self-in-Ok.inside.log.items c.self-in-Ok.inside.next_handle c.self-in-Ok.inside.next_tx
     ≡ committed c.args.self.now (map (takes c.args.waiting.queue) c.in-Ok.items.items) =
     c.self-in-Ok.view_is ∙ c.in-Ok-take.ensures.1

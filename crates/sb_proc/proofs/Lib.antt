@@ -1,0 +1,17 @@
+pub mod Folds
+pub mod Values
+pub mod Weights
+pub mod Blocks
+pub mod Given
+pub mod Kept
+pub mod Assigns
+pub mod Wants
+pub mod Passing
+pub mod Turning
+pub mod Going
+pub mod Cuts
+pub mod Laid
+pub mod First
+pub mod Storing
+pub mod Dialogs
+pub mod Chains
