@@ -1,0 +1,4 @@
+pub mod Places
+pub mod Numbering
+pub mod Lookups
+pub mod Shown

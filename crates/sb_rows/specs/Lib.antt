@@ -1,0 +1,5 @@
+pub mod Numbers
+pub mod Keyed
+pub mod ByNumber
+pub mod RowsAndLocks
+pub mod Inside
