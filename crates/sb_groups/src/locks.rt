@@ -4,7 +4,7 @@ ghost use Rattle.std.specs.Prelude.{◌≡◌, ◌≢◌, ◌+◌, ◌<◌, ◌�
 ghost use Rattle.sb_groups.specs.Holds.{hold_of, holder_of, KeepsHolders, SetsHolder, HoldsNothing};
 
 use indexmap::IndexMap;
-use sb_log::GroupId;
+use sb_log::{GroupId, Held};
 use std::alloc::{AllocError, Global};
 use std::marker::Model;
 
@@ -117,5 +117,15 @@ impl Locks {
     {
         let GroupGuard { group, tx: _ } = guard;
         self.holders.swap_remove(&group);
+    }
+}
+
+impl Held for Locks {
+    ghost use Rattle.sb_groups.specs.Holds.{holder_of};
+
+    ghost held_by = { λ locks group. holder_of locks.holds group };
+
+    fn holder(&self, group: GroupId) -> Option<u64> {
+        Locks::holder(self, group)
     }
 }

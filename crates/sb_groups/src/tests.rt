@@ -5,7 +5,7 @@ ghost use Rattle.std.specs.Bool.{OnTrue};
 ghost use Rattle.sb_groups.specs.Holds.{holder_of};
 
 use crate::{GroupGuard, HeldBy, Locks};
-use sb_log::{GroupId, Handle};
+use sb_log::{GroupId, Handle, Held};
 use std::process::Abort;
 use std::test::Fail;
 
@@ -109,6 +109,11 @@ fn two_groups_are_taken_and_given_back_in_each_order(rt: HostRuntime) -> Result<
     Ok(())
 }
 
+/// Who holds the group, as one who picks messages sees it.
+fn seen<H: Held>(locks: &H, group: GroupId) -> Option<u64> {
+    locks.holder(group)
+}
+
 /// One transaction's group goes to the other, which holds both then.
 fn hand_over(rt: &impl Abort, locks: &mut Locks, first: Wish, second: Wish)
     requires { 4 ≤ locks.old.spare }
@@ -116,7 +121,9 @@ fn hand_over(rt: &impl Abort, locks: &mut Locks, first: Wish, second: Wish)
     let own = take(rt, locks, first.group, first.tx);
     let other = take(rt, locks, second.group, second.tx);
     give_back(rt, locks, own);
+    assert_eq!(rt; seen(locks, first.group), None);
     let gained = take(rt, locks, first.group, second.tx);
+    assert_eq!(rt; seen(locks, first.group), Some(second.tx));
     ask_held(rt, locks, first.group, first.tx, second.tx);
     ask_held(rt, locks, second.group, first.tx, second.tx);
     give_back(rt, locks, other);

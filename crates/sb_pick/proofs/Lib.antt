@@ -1,0 +1,11 @@
+pub mod Arrivals
+pub mod Each
+pub mod Handles
+pub mod Learned
+pub mod Lists
+pub mod Logs
+pub mod Offering
+pub mod Places
+pub mod Seen
+pub mod Told
+pub mod Views
