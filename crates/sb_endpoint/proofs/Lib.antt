@@ -1,0 +1,9 @@
+pub mod Alike
+pub mod Growth
+pub mod Saying
+pub mod Naming
+pub mod Judged
+pub mod Found
+pub mod Headed
+pub mod Applied
+pub mod Answered

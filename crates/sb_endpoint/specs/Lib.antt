@@ -1,0 +1,9 @@
+pub mod Endpoints
+pub mod Changes
+pub mod States
+pub mod Handles
+pub mod Headers
+pub mod Seen
+pub mod Inside
+pub mod Room
+pub mod Acceptance
