@@ -17,7 +17,7 @@ use Rattle.sb_model.specs.Groups.{far_service, group_moved, group_of, level_amon
 use Rattle.sb_model.specs.Items.{is_taken, item_of, items, items_from, next_number, own_end, queue_of, taken_by, waiting, waits_at, waits_in}
 use Rattle.sb_model.specs.Messages.{cleans, ends_side, is_cleaned, is_ended}
 use Rattle.sb_model.specs.Sides.{Bytes, Making, before_made, is_of, made, made_by, ops_of, ops_of_entry, same_name}
-use Rattle.sb_pick.specs.Of.{DoesNothing, IsOf, brings, handle_of, placed}
+use Rattle.sb_pick.specs.Of.{HasNoOperations, IsOf, brings, handle_of, placed}
 use Rattle.sb_pick.specs.Picked.{stands_in}
 use Rattle.sb_pick.specs.Waiting.{Waiting, is_known, waiting_of}
 use Rattle.sb_pick.proofs.Each.{all_filtered, filter_of, map_of}
@@ -73,7 +73,7 @@ others_true false b c d x h = cc
 
 -- ---- what a log says of a side stays
 
-module _ (log : List Entry) (e : Entry) (nothing : DoesNothing e) where
+module _ (log : List Entry) (e : Entry) (nothing : HasNoOperations e) where
   abbrev longer : List Entry
   longer = log ++ e ∷ []
 
@@ -122,7 +122,7 @@ module _ (log : List Entry) (e : Entry) (nothing : DoesNothing e) where
 
   module _ (queues : List Bytes) (ws : List Waiting) (is : IsOf log queues ws) where
     all_placed : AllByRecursion (HasQueue log) (items log)
-    all_placed = recursion_from_All (HasQueue log) (items log) is.placed
+    all_placed = recursion_from_All (HasQueue log) (items log) is.in_queue
 
     abbrev brought : Bytes → List Item
     brought q = filter (waits_in longer q) (cons_option (brings log e) [])
@@ -150,13 +150,13 @@ module _ (log : List Entry) (e : Entry) (nothing : DoesNothing e) where
     all_later : All (HasQueue longer) (cons_option (brings log e) []) → All (HasQueue longer) (items longer)
     all_later more =
         subst (All (HasQueue longer)) (sym (items_behind e 1 log))
-        (All-append (HasQueue longer) (items log) (cons_option (brings log e) []) (All-weaker (HasQueue log) (HasQueue longer) queues_stay (items log) is.placed) more)
+        (All-append (HasQueue longer) (items log) (cons_option (brings log e) []) (All-weaker (HasQueue log) (HasQueue longer) queues_stay (items log) is.in_queue) more)
 
     none_brought : ((q : Bytes) → IsTrue (is_known queues q) → brought q ≡ []) → All (HasQueue longer) (cons_option (brings log e) []) → IsOf longer queues ws
     none_brought none more = record {
       waiting = λ q known. sym (placed_longer q known ∙ ap (λ xs. filter (stands_in q) ws ++ map (placed longer q) xs) (none q known) ∙ append-nil (filter (stands_in q) ws));
       known = is.known;
-      placed = all_later more;
+      in_queue = all_later more;
     }
 
     -- an entry that brings nothing
@@ -203,7 +203,7 @@ module _ (log : List Entry) (e : Entry) (nothing : DoesNothing e) where
       brings_item = record {
         waiting = arrives;
         known = All-push (λ w. IsTrue (is_known queues w.queue)) ws (placed longer q item) is.known known;
-        placed = all_later (subst (λ o. All (HasQueue longer) (cons_option o [])) (sym brought_is) (All-cons (HasQueue longer) item [] item_has_queue (All-nil (HasQueue longer))));
+        in_queue = all_later (subst (λ o. All (HasQueue longer) (cons_option o [])) (sym brought_is) (All-cons (HasQueue longer) item [] item_has_queue (All-nil (HasQueue longer))));
       }
 
     -- an item that doesn't wait

@@ -49,7 +49,7 @@ module _ (log : List Entry) (queues : List Bytes) (ws : List Waiting) (is : IsOf
   one_more d none = record {
     waiting = λ q known. by q (is_known queues q) refl known;
     known = All-weaker (λ w. IsTrue (is_known queues w.queue)) (λ w. IsTrue (is_known (with_queue queues d) w.queue)) (λ w. stays queues (Some d) w.queue) ws is.known;
-    placed = is.placed;
+    in_queue = is.in_queue;
   }
     where
       by : (q : Bytes) (t : Bool) → is_known queues q ≡ t → IsTrue (is_known (with_queue queues d) q) → filter (stands_in q) ws ≡ map (placed log q) (waiting log q)

@@ -245,7 +245,7 @@ module _ (log : List Entry) (queues : List Bytes) (ws : List Waiting) (tx : ℕ)
   later = with_ops log tx ops
 
   all_placed : AllByRecursion (HasQueue log) (items log)
-  all_placed = recursion_from_All (HasQueue log) (items log) is.placed
+  all_placed = recursion_from_All (HasQueue log) (items log) is.in_queue
 
   view_waits : (q : Bytes) → IsTrue (is_known queues q) → filter (stands_in q) (after ops ws) ≡ map (placed later q) (waiting later q)
   view_waits q known =
@@ -271,8 +271,8 @@ module _ (log : List Entry) (queues : List Bytes) (ws : List Waiting) (tx : ℕ)
   view_is = record {
     waiting = view_waits;
     known = All-map (λ w. IsTrue (is_known queues w.queue)) (moved ops) (filter (is_left ops) ws) (All-filter (is_left ops) (λ w. IsTrue (is_known queues w.queue)) ws is.known);
-    placed = subst (All (HasQueue later)) (sym (items_more log tx ops)) (All-weaker (HasQueue log) (HasQueue later) has_queue_later (items log) is.placed);
+    in_queue = subst (All (HasQueue later)) (sym (items_more log tx ops)) (All-weaker (HasQueue log) (HasQueue later) has_queue_later (items log) is.in_queue);
   }
 
 pub nothing_waits : (queues : List Bytes) → IsOf [] queues []
-nothing_waits queues = record { waiting = λ q known. refl; known = All-nil (λ w. IsTrue (is_known queues w.queue)); placed = All-nil (HasQueue []) }
+nothing_waits queues = record { waiting = λ q known. refl; known = All-nil (λ w. IsTrue (is_known queues w.queue)); in_queue = All-nil (HasQueue []) }

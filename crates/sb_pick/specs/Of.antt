@@ -26,11 +26,11 @@ placed log q item =
 pub record IsOf (log : List Entry) (queues : List Bytes) (ws : List Waiting) : Type 0 where
   pub waiting : (q : Bytes) → IsTrue (is_known queues q) → filter (stands_in q) ws ≡ map (placed log q) (waiting log q)
   pub known : All (λ w. IsTrue (is_known queues w.queue)) ws
-  pub placed : All (λ item. IsSome (queue_of log item.side)) (items log)
+  pub in_queue : All (λ item. IsSome (queue_of log item.side)) (items log)
 
--- the entry is no transaction
-abbrev pub DoesNothing : Entry → Type 0
-DoesNothing e = ops_of_entry e ≡ []
+-- the entry is no transaction, or does nothing
+abbrev pub HasNoOperations : Entry → Type 0
+HasNoOperations e = ops_of_entry e ≡ []
 
 -- the item that an entry behind the log brings
 abbrev pub brings : List Entry → Entry → Option Item

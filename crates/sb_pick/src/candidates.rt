@@ -1,9 +1,9 @@
 //! The messages that a RECEIVE may take.
 
-ghost use Rattle.std.specs.Prelude.{◌≡◌, ◌<◌, None, IfOk, filter, filter_map, flat_map, length, map};
+ghost use Rattle.std.specs.Prelude.{◌≡◌, None, IfOk, filter, filter_map, flat_map, map};
 ghost use Rattle.std.specs.List.{last_or, list_any};
 ghost use Rattle.sb_model.specs.Groups.{group_moved};
-ghost use Rattle.sb_pick.specs.Inside.{ArePlaced, name_at, seen, seen_in};
+ghost use Rattle.sb_pick.specs.Inside.{ArePlaced, seen, seen_in};
 ghost use Rattle.sb_pick.specs.Offered.{is_free, offered};
 ghost use Rattle.sb_pick.specs.Picked.{admits, is_free_for, withdraws};
 

@@ -14,7 +14,7 @@ ghost use Rattle.sb_model.specs.Items.{queue_of, waiting, waits_in};
 ghost use Rattle.sb_model.specs.Pick.{pick_in};
 ghost use Rattle.sb_model.specs.Sides.{Bytes};
 ghost use Rattle.sb_model.specs.Transactions.{OpenTransaction, with_ops};
-ghost use Rattle.sb_pick.specs.Of.{DoesNothing, HandlesDiffer, HoldsAs, IsOf, brings, numbered, placed};
+ghost use Rattle.sb_pick.specs.Of.{HasNoOperations, HandlesDiffer, HoldsAs, IsOf, brings, numbered, placed};
 ghost use Rattle.sb_pick.specs.Picked.{after, picked, withdraws};
 ghost use Rattle.sb_pick.specs.Waiting.{Waiting, is_known, known_after, queue_defined, regrouped, without_item, without_side};
 
@@ -49,7 +49,7 @@ pub fn waiting_grows_with_the_log()
     ensures empty { (queues : List Bytes) → IsOf [] queues [] }
     ensures known { (log : List Entry) (queues : List Bytes) (ws : List Waiting) (entry : Entry) → IsOf log queues ws → ((q : Bytes) → queue_defined entry ≡ Some q → waiting log q ≡ []) → IsOf log (known_after queues entry) ws }
     ensures operations { (log : List Entry) (queues : List Bytes) (ws : List Waiting) (tx : ℕ) (ops : List Op) → IsOf log queues ws → IsOf (with_ops log tx ops) queues (after ops ws) }
-    ensures arrived { (log : List Entry) (e : Entry) → DoesNothing e → (queues : List Bytes) (ws : List Waiting) → IsOf log queues ws → (item : Item) (q : Bytes) → IsTrue (is_known queues q) → brings log e ≡ Some item → IsTrue (waits_in (log ++ e ∷ []) q item) → IsOf (log ++ e ∷ []) queues (ws ++ placed (log ++ e ∷ []) q item ∷ []) }
-    ensures unseen { (log : List Entry) (e : Entry) → DoesNothing e → (queues : List Bytes) (ws : List Waiting) → IsOf log queues ws → (item : Item) → brings log e ≡ Some item → IsSome (queue_of (log ++ e ∷ []) item.side) → ((q : Bytes) → IsTrue (is_known queues q) → waits_in (log ++ e ∷ []) q item ≡ false) → IsOf (log ++ e ∷ []) queues ws }
-    ensures others { (log : List Entry) (e : Entry) → DoesNothing e → (queues : List Bytes) (ws : List Waiting) → IsOf log queues ws → brings log e ≡ None → IsOf (log ++ e ∷ []) queues ws }
+    ensures arrived { (log : List Entry) (e : Entry) → HasNoOperations e → (queues : List Bytes) (ws : List Waiting) → IsOf log queues ws → (item : Item) (q : Bytes) → IsTrue (is_known queues q) → brings log e ≡ Some item → IsTrue (waits_in (log ++ e ∷ []) q item) → IsOf (log ++ e ∷ []) queues (ws ++ placed (log ++ e ∷ []) q item ∷ []) }
+    ensures unseen { (log : List Entry) (e : Entry) → HasNoOperations e → (queues : List Bytes) (ws : List Waiting) → IsOf log queues ws → (item : Item) → brings log e ≡ Some item → IsSome (queue_of (log ++ e ∷ []) item.side) → ((q : Bytes) → IsTrue (is_known queues q) → waits_in (log ++ e ∷ []) q item ≡ false) → IsOf (log ++ e ∷ []) queues ws }
+    ensures others { (log : List Entry) (e : Entry) → HasNoOperations e → (queues : List Bytes) (ws : List Waiting) → IsOf log queues ws → brings log e ≡ None → IsOf (log ++ e ∷ []) queues ws }
 {}

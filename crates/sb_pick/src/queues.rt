@@ -1,7 +1,6 @@
 //! What waits in the queues of an instance.
 
-ghost use Rattle.std.specs.Prelude.{◌≡◌, ◌+◌, ◌<◌, ◌≤◌, [], ◌∷◌, ◌++◌, All, IfOk, IsTrue, OnErr, OnOk, filter, map, vec_capacity};
-ghost use Rattle.sb_pick.specs.Inside.{ArePlaced, KeepsPlaces};
+ghost use Rattle.std.specs.Prelude.{◌≡◌, ◌+◌, ◌<◌, ◌≤◌, [], ◌∷◌, ◌++◌, IfOk, IsTrue, OnErr, OnOk};
 ghost use Rattle.sb_pick.specs.Picked.{picked};
 ghost use Rattle.sb_pick.specs.Waiting.{is_known, known_after, regrouped, waiting_of, without_item, without_side};
 

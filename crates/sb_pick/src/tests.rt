@@ -1,7 +1,6 @@
 //! Picks over levels, groups, filters and limits, and after what a transaction did itself.
 
-ghost use Rattle.std.specs.Prelude.{◌≡◌, ◌<◌, ◌≤◌, OnOk, Some, None, if◌then◌else◌};
-ghost use Rattle.sb_model.specs.Sides.{same_id};
+ghost use Rattle.std.specs.Prelude.{◌<◌, OnOk};
 
 use crate::Queues;
 use sb_log::{
